@@ -1,0 +1,3 @@
+pub mod Trellis
+pub mod Verdict
+pub mod Sheet
