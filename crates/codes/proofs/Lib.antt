@@ -1,0 +1,4 @@
+pub mod Codewords
+pub mod Encodings
+pub mod Registers
+pub mod Rules

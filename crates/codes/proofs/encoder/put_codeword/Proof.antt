@@ -1,0 +1,193 @@
+-- `encoder::put_codeword` meets its contract: what is left of the codeword, written over the buffer as it is, finishes it (the record
+-- Writing). Assumes nothing.
+use borrow.Author.Needs.{needs, length-unmapped}
+use borrow.Author.Tests.{leb-true}
+use mathlib.Core.Path.{_≡_, refl, sym, ap, _∙_, subst, subst₃}
+use mathlib.Core.List.{List}
+use Prim.Native.Nat.{ℕ, _+_, _-_, _/_, _^_, _≤_, _<_}
+use native.Mathlib.Omega.{arith}
+use lib.ListN.{length, getD, take, drop}
+use lib.Pow.{pow-pos}
+use lib.Seq.{sets, length-take-le}
+use Rattle.lists.proofs.Scan.{all-getD}
+use Rattle.codes.specs.Codes.{from, generatorsOf, registerOf, nextState, branchOutputs, outputsFrom, withTail, codeword, blockLength}
+use Rattle.codes.specs.Encoding.{isBit}
+use Rattle.codes.proofs.Codewords.{Writing, writing-start, writing-next, writing-done, branch-fits, withTail-at, length-withTail, length-codeword}
+use Rattle.codes.proofs.Rules.{Bounds, lawful-out, both, from-out}
+use Rattle.codes.proofs.encoder.put_codeword.Statement.{statement}
+use Rattle.codes.proofs.encoder.put_codeword.Tie as tie
+
+abbrev Inv-loop : tie.InvT-loop
+Inv-loop message out₀ n generators steps register₀ at₀ i₀ out register at i =
+    (register .memory ≡ register₀ .memory) ×
+    Writing (take n generators) (register₀ .memory) (withTail (register₀ .memory) message) out₀ out (register .state) at i
+
+abbrev μ-loop : tie.MeasureT-loop
+μ-loop message out₀ n generators steps register₀ at₀ i₀ out register at i = steps - i
+
+-- ---- the places of the walk, and what is known there
+
+abbrev entry : tie.At-loop Inv-loop μ-loop → tie.Start Inv-loop μ-loop
+entry a = a .before .before .before .before .before .before .before
+
+bounds : (s : tie.Start Inv-loop μ-loop) → Bounds (s .args .code)
+bounds s = lawful-out (s .args .code) (s .pre .code)
+
+sizes : (s : tie.Start Inv-loop μ-loop) → (length (s .args .message .now) ≤ 200) × (blockLength (s .args .code) (length (s .args .message .now)) ≤ length (s .args .out .now))
+sizes s =
+    let p = both (from 1 200 (length (s .args .message .now))) _ (s .pre .sizes) in
+    (from-out 1 200 (length (s .args .message .now)) (p .0) .1, leb-true _ _ (p .1))
+
+-- the generators stand in an array of four
+four : (s : tie.Start Inv-loop μ-loop) → length (s .args .code .generators) ≡ 4
+four s = length-unmapped ℕ (s .args .code .generators) 4 (s .good .0 .1 .1 .1 .1 .0 .1 .0 .1)
+
+abbrev generators : tie.At-loop Inv-loop μ-loop → List ℕ
+generators a = generatorsOf (entry a .args .code)
+
+counted : (a : tie.At-loop Inv-loop μ-loop) → length (generators a) ≡ entry a .args .code .outputs
+counted a = let s = entry a in length-take-le (s .args .code .outputs) (s .args .code .generators) (omega (arith, four s, bounds s .outputs-most))
+
+-- the memory that the register holds is the code's
+memory : (a : tie.At-loop Inv-loop μ-loop) → a .before .start .result .memory ≡ entry a .args .code .memory
+memory a = a .before .start .ensures .0
+
+abbrev bits : tie.At-loop Inv-loop μ-loop → List ℕ
+bits a = withTail (a .before .start .result .memory) (entry a .args .message .now)
+
+more : (w : tie.In-loop Inv-loop μ-loop) → w .before .loop .i < length (bits (w .before))
+more w =
+    let a = w .before in
+    omega (arith, length-withTail (a .before .start .result .memory) (entry a .args .message .now), memory a, w .loop-test .taken)
+
+bit-small : (a : tie.At-loop Inv-loop μ-loop) → getD (entry a .args .message .now) (a .loop .i) 0 ≤ 1
+bit-small a = leb-true _ 1 (all-getD isBit (entry a .args .message .now) 0 (a .loop .i) refl (entry a .pre .bits))
+
+-- the buffer has room for the branch
+fits : (w : tie.In-loop Inv-loop μ-loop) → let a = w .before in a .loop .at + entry a .args .code .outputs ≤ length (a .loop .out)
+fits w =
+    let a = w .before in
+    omega (arith, counted a, branch-fits (generators a) _ (bits a) _ _ _ (a .loop .at) (a .loop .i) (a .loop .inv .1) (more w))
+
+-- the register can take the bit
+ready : (c : tie.After-bit-at Inv-loop μ-loop) → let r = c .before .before .loop .register in (r .memory ≤ 16) × (r .state < 2 ^ (r .memory)) × (c .bit-at .result ≤ 1)
+ready c =
+    let a = c .before .before in (
+      omega (arith, memory a, a .loop .inv .0, bounds (entry a) .memory-most),
+      rw (a .loop .inv .0) (a .loop .inv .1 .state),
+      omega (arith, c .bit-at .ensures, bit-small a),
+    )
+
+-- ---- the answers
+
+cast-n : tie.Need-cast-n Inv-loop μ-loop
+cast-n c = search needs
+
+cast-steps : tie.Need-cast-steps Inv-loop μ-loop
+cast-steps c = search needs
+
+add-steps : tie.Need-add-steps Inv-loop μ-loop
+add-steps c =
+    let s = c .before .before .before .before .before in
+    omega (arith, sizes s .0, bounds s .memory-most)
+
+start-requires : tie.Need-start-requires Inv-loop μ-loop
+start-requires c κs = tt
+
+loop-holds : tie.Need-loop-holds Inv-loop μ-loop
+unfolding codeword
+loop-holds c =
+    let s = c .before .before .before .before .before .before in
+    let m = c .start .result .memory in
+    let N : length (codeword (s .args .code) (s .args .message .now)) ≤ length (s .args .out .now) =
+    omega (arith, sizes s .1, length-codeword (s .args .code) (s .args .message .now) (omega (arith, four s, bounds s .outputs-most))) in (
+      refl,
+      rw (c .start .ensures .1, c .start .ensures .0) (writing-start (generatorsOf (s .args .code)) (s .args .code .memory) (withTail (s .args .code .memory) (s .args .message .now)) (s .args .out .now) (pow-pos _) N),
+    )
+
+bit-at-requires : tie.Need-bit-at-requires Inv-loop μ-loop
+bit-at-requires c κs = tt
+
+with-requires : tie.Need-with-requires Inv-loop μ-loop
+with-requires c κs = ready c
+
+put-branch-requires : tie.Need-put-branch-requires Inv-loop μ-loop
+put-branch-requires c κs =
+    let w = c .before .before .before in
+    let a = w .before in (
+      bounds (entry a) .outputs-most,
+      fits w,
+    )
+
+next-requires : tie.Need-next-requires Inv-loop μ-loop
+next-requires c κs = ready (c .before .before .before .before .before)
+
+add-at : tie.Need-add-at Inv-loop μ-loop
+add-at c =
+    let w = c .before .before .before .before .before .before .before in
+    let a = w .before in
+    omega (arith, fits w, entry a .good .1 .1 .0 .0, a .loop .inv .1 .kept)
+
+add-i : tie.Need-add-i Inv-loop μ-loop
+add-i c = omega arith
+
+loop-less : tie.Need-loop-less Inv-loop μ-loop
+loop-less c = omega arith
+
+loop-again : tie.Need-loop-again Inv-loop μ-loop
+loop-again c =
+    let k = c .before .before .before in
+    let t = k .before .before in
+    let w = t .before .before in
+    let a = w .before in
+    let s = entry a in
+    let m = a .before .start .result .memory in
+    let b : t .before .bit-at .result ≡ getD (bits a) (a .loop .i) 0 = t .before .bit-at .ensures ∙ sym (withTail-at m (s .args .message .now) (a .loop .i)) in
+    let n : Writing (generators a) m (bits a) (s .args .out .now)
+    (sets (a .loop .out) (a .loop .at) (branchOutputs (generators a) (registerOf m (getD (bits a) (a .loop .i) 0) (a .loop .register .state))))
+    (nextState m (getD (bits a) (a .loop .i) 0) (a .loop .register .state)) (a .loop .at + length (generators a)) (a .loop .i + 1) =
+    writing-next (generators a) m (bits a) (s .args .out .now) (a .loop .out) (a .loop .register .state) (a .loop .at) (a .loop .i) (a .loop .inv .1) (more w) (omega (arith, bit-small a, withTail-at m (s .args .message .now) (a .loop .i))) in
+    let r : registerOf (a .loop .register .memory) (t .before .bit-at .result) (a .loop .register .state) ≡ registerOf m (getD (bits a) (a .loop .i) 0) (a .loop .register .state) =
+    λ z. registerOf (a .loop .inv .0 z) (b z) (a .loop .register .state) in (
+      c .next .ensures .0 ∙ a .loop .inv .0,
+      subst₃ (λ (o : List ℕ) (q : ℕ) (p : ℕ). Writing (generators a) m (bits a) (s .args .out .now) o q p (a .loop .i + 1))
+          (sym (k .put-branch .ensures ∙ ap (λ (x : ℕ). sets (a .loop .out) (a .loop .at) (branchOutputs (generators a) x)) (t .with .ensures ∙ r)))
+          (sym (c .next .ensures .1 ∙ ap (λ (x : ℕ). x / 2) r))
+          (ap (λ (x : ℕ). a .loop .at + x) (counted a))
+          n,
+    )
+
+same-length : tie.Need-same-length Inv-loop μ-loop
+same-length c = c .before .loop .inv .1 .kept
+
+returns : tie.Need-returns Inv-loop μ-loop
+unfolding codeword
+returns c =
+    let a = c .before in
+    let m = a .before .start .result .memory in
+    let s = entry a in
+    let e : a .loop .out ≡ sets (s .args .out .now) 0 (outputsFrom (generators a) m 0 (bits a)) =
+    writing-done (generators a) m (bits a) (s .args .out .now) (a .loop .out) _ (a .loop .at) (a .loop .i) (a .loop .inv .1) (omega (arith, length-withTail m (s .args .message .now), memory a, c .loop-test .left)) in
+    subst (λ (k : ℕ). a .loop .out ≡ sets (s .args .out .now) 0 (outputsFrom (generators a) k 0 (withTail k (s .args .message .now)))) (memory a) e
+
+pub put-codeword-spec : {M : Type 1} → statement M
+put-codeword-spec =
+    tie.close
+    (tie.spec
+    Inv-loop
+    μ-loop
+    cast-n
+    cast-steps
+    add-steps
+    start-requires
+    loop-holds
+    bit-at-requires
+    with-requires
+    put-branch-requires
+    next-requires
+    add-at
+    add-i
+    loop-less
+    loop-again
+    same-length
+    returns)

@@ -1,0 +1,52 @@
+-- What `encode` answers and writes, for every input: document 01, 'When the desk says no'. Believed, after Codes. Assumes nothing.
+use mathlib.Core.Path.{_≡_}
+use mathlib.Core.List.{List, _++_}
+use mathlib.Core.Bool.{Bool, true, cond, not, _&&_}
+use Prim.Native.Nat.{ℕ}
+use lib.Dec.{leb}
+use lib.ListN.{length, drop}
+use Rattle.lists.specs.Lists.{all}
+use Rattle.codes.specs.Limits.{shortestMessage, longestMessage}
+use Rattle.codes.specs.Codes.{from, lawful, codeword, blockLength}
+use Rattle.codes.specs.declared.table.Code.{Code}
+use Rattle.codes.specs.declared.encoder.Encoded.{Encoded}
+use Rattle.codes.specs.declared.encoder.Encoded.the-variants.{Done, BadCode, BadSize, Malformed}
+
+-- what the encoder hands back: the paper's number, N or 0, and the output buffer as it is then
+pub record Encoding : Type 0 where
+  pub number : ℕ
+  pub symbols : ℕ
+  pub out : List ℕ
+
+abbrev pub handed : ℕ → ℕ → List ℕ → Encoding
+handed number symbols out = record { number = number; symbols = symbols; out = out }
+
+-- the paper's number and values for each case of the answer
+unfoldable pub told : Encoded → List ℕ → Encoding
+told (Done n) out = handed 0 n out
+told BadCode out = handed 1 0 out
+told BadSize out = handed 2 0 out
+told Malformed out = handed 6 0 out
+
+-- 'A message has L bits, L from 1 to 200'; 'The encoder's L is the length of its message', and its buffer holds N bytes
+abbrev pub sizesFit : Code → ℕ → ℕ → Bool
+sizesFit c l room = from shortestMessage longestMessage l && leb (blockLength c l) room
+
+-- 'each held as a byte 0 or 1'
+abbrev pub isBit : ℕ → Bool
+isBit b = leb b 1
+
+-- The refusals 1, 2, 6 in their order, 'every output buffer untouched'; then 'N bytes, each 0 or 1', the excess untouched.
+unfoldable pub encoding : Code → List ℕ → List ℕ → Encoding
+encoding c message out =
+    cond (not (lawful c)) (handed 1 0 out)
+    (cond (not (sizesFit c (length message) (length out))) (handed 2 0 out)
+    (cond (not (all isBit message)) (handed 6 0 out)
+    (handed 0 (blockLength c (length message)) (codeword c message ++ drop (blockLength c (length message)) out))))
+
+-- ---- not for the reader: what the writing of a codeword asks of its caller
+
+pub record Encodable (c : Code) (message : List ℕ) (room : ℕ) : Type 0 where
+  pub code : lawful c ≡ true
+  pub sizes : sizesFit c (length message) room ≡ true
+  pub bits : all isBit message ≡ true

@@ -1,0 +1,4 @@
+// The code table, the register and the encoder: document 01, 'The code table'.
+pub mod encoder;
+pub mod register;
+pub mod table;

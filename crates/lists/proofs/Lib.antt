@@ -1,0 +1,3 @@
+pub mod Places
+pub mod Scan
+pub mod Writing
