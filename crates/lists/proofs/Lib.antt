@@ -1,0 +1,6 @@
+pub mod Tests
+pub mod Membership
+pub mod Unique
+pub mod Distinct
+pub mod Sorted
+pub mod Least
