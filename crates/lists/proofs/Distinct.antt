@@ -1,5 +1,5 @@
 -- Each member once, by a test that is equality. Assumes nothing.
-use mathlib.Core.Path.{_≡_, refl}
+use mathlib.Core.Path.{_≡_}
 use mathlib.Core.List.{List, [], _∷_, List·Memᴰ·head, List·Memᴰ·tail, Memᴰ·cast}
 use mathlib.Core.Bool.{Bool}
 use lib.Dec.{T}

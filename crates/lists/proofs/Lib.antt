@@ -4,3 +4,5 @@ pub mod Unique
 pub mod Distinct
 pub mod Sorted
 pub mod Least
+pub mod Lexicographic
+pub mod Words
