@@ -1,9 +1,9 @@
--- What the members of a list are: of map, flatMap, keep, take, the numbers below, and what all and any say of them.
+-- What the members of a list are: of map, flatMap, keep, take, reverse, the numbers below, and what all and any say of them.
 -- A law NAME-in puts a member in, NAME-out says where a member comes from. Members of an append are in mathlib.Core.List.
 -- Assumes nothing.
 use mathlib.Core.Path.{_≡_, refl, sym, ap, _∙_, subst}
 use mathlib.Core.Logic.{_⊎_, inl, inr}
-use mathlib.Core.List.{List, [], _∷_, map, flatMap, List·Memᴰ·head, List·Memᴰ·tail, List·Memᴰ·not-nil, List·Memᴰ·append-cases, Memᴰ·append-left, Memᴰ·append-right, Memᴰ·map, Memᴰ·of-map}
+use mathlib.Core.List.{List, [], _∷_, map, flatMap, reverse, reverseAux, List·Memᴰ·head, List·Memᴰ·tail, List·Memᴰ·not-nil, List·Memᴰ·append-cases, Memᴰ·append-left, Memᴰ·append-right, Memᴰ·map, Memᴰ·of-map}
 use mathlib.Core.Bool.{Bool}
 use Prim.Native.Nat.{ℕ, zero, suc, _≤_, _<_}
 use native.Mathlib.Nat.{le-of-suc-le-suc, not-suc-le-zero}
@@ -44,6 +44,25 @@ module _ {A : Type 0} where
   take-more (suc m) (suc n) [] h a k = k
   take-more (suc m) (suc n) (x ∷ l) h a (List·Memᴰ·head e) = List·Memᴰ·head e
   take-more (suc m) (suc n) (x ∷ l) h a (List·Memᴰ·tail k) = List·Memᴰ·tail (take-more m n l (le-of-suc-le-suc h) a k)
+
+  -- ---- reverse
+
+  reverseAux-out : (l r : List A) {a : A} → a ∈ reverseAux l r → (a ∈ l) ⊎ (a ∈ r)
+  reverseAux-out [] r m = inr m
+  reverseAux-out (x ∷ l) r {a} m = go (reverseAux-out l (x ∷ r) m)
+    where
+      go : (a ∈ l) ⊎ (a ∈ (x ∷ r)) → (a ∈ (x ∷ l)) ⊎ (a ∈ r)
+      go (inl k) = inl (List·Memᴰ·tail k)
+      go (inr (List·Memᴰ·head e)) = inl (List·Memᴰ·head e)
+      go (inr (List·Memᴰ·tail k)) = inr k
+
+  -- the same members; the other way by reverse-reverse
+  pub reverse-out : (l : List A) → Within (reverse l) l
+  reverse-out l a m = go (reverseAux-out l [] m)
+    where
+      go : (a ∈ l) ⊎ (a ∈ []) → a ∈ l
+      go (inl k) = k
+      go (inr k) = absurd (List·Memᴰ·not-nil k)
 
   module _ (p : A → Bool) where
     -- ---- keep
