@@ -1,3 +1,11 @@
 pub mod Places
 pub mod Scan
 pub mod Writing
+pub mod Tests
+pub mod Membership
+pub mod Unique
+pub mod Distinct
+pub mod Sorted
+pub mod Least
+pub mod Lexicographic
+pub mod Words

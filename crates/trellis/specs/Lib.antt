@@ -1,3 +1,4 @@
 pub mod Trellis
 pub mod Verdict
 pub mod Sheet
+pub mod Lawful

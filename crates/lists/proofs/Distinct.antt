@@ -1,0 +1,73 @@
+-- Each member once, by a test that is equality. Assumes nothing.
+use mathlib.Core.Path.{_≡_}
+use mathlib.Core.List.{List, [], _∷_, List·Memᴰ·head, List·Memᴰ·tail, Memᴰ·cast}
+use mathlib.Core.Bool.{Bool}
+use lib.Dec.{T}
+use lib.ListN.{length}
+use Rattle.lists.specs.Lists.{_∈_, any, distinct}
+use Rattle.lists.proofs.Tests.{test, true-out, false-out}
+use Rattle.lists.proofs.Membership.{Within, any-in, any-out}
+use Rattle.lists.proofs.Unique.{Unique, same-length}
+
+module _ {A : Type 0} where
+  -- a test that is equality
+  pub record Equality (same : A → A → Bool) : Type 0 where
+    pub sound : (a b : A) → T (same a b) → a ≡ b
+    pub complete : (a : A) → T (same a a)
+
+  module _ (same : A → A → Bool) (eq : Equality same) where
+    -- the test over a list is membership
+    pub listed-in : {l : List A} {a : A} → a ∈ l → T (any (same a) l)
+    listed-in {a = a} m = any-in (same a) m (eq .complete a)
+
+    pub listed-out : (l : List A) (a : A) → T (any (same a) l) → a ∈ l
+    listed-out l a h = let r = any-out (same a) l h in Memᴰ·cast (eq .sound a (r .which) (r .passes)) (r .member)
+
+    -- how distinct goes on, where it is known if the first comes again
+    distinct-again : (x : A) (l : List A) → T (any (same x) (distinct same l)) → distinct same (x ∷ l) ≡ distinct same l
+    unfolding distinct
+    distinct-again x l h = rw (true-out (any (same x) (distinct same l)) h)
+
+    distinct-new : (x : A) (l : List A) → (T (any (same x) (distinct same l)) → ⊥) → distinct same (x ∷ l) ≡ x ∷ distinct same l
+    unfolding distinct
+    distinct-new x l h = rw (false-out (any (same x) (distinct same l)) h)
+
+    -- the same members
+    pub distinct-in : (l : List A) → Within l (distinct same l)
+    distinct-in (x ∷ l) a m = go (test (any (same x) (distinct same l))) m (λ k. distinct-in l a k)
+      where
+        go : Dec (T (any (same x) (distinct same l))) → a ∈ (x ∷ l) → (a ∈ l → a ∈ distinct same l) → a ∈ distinct same (x ∷ l)
+        go (yes h) (List·Memᴰ·head e) ih = rw (distinct-again x l h) (Memᴰ·cast e (listed-out (distinct same l) x h))
+        go (yes h) (List·Memᴰ·tail k) ih = rw (distinct-again x l h) (ih k)
+        go (no h) (List·Memᴰ·head e) ih = rw (distinct-new x l h) (List·Memᴰ·head e)
+        go (no h) (List·Memᴰ·tail k) ih = rw (distinct-new x l h) (List·Memᴰ·tail (ih k))
+
+    pub distinct-out : (l : List A) → Within (distinct same l) l
+    unfolding distinct
+    distinct-out [] a m = m
+    distinct-out (x ∷ l) a m = go (test (any (same x) (distinct same l))) (λ k. distinct-out l a k)
+      where
+        new : a ∈ (x ∷ distinct same l) → (a ∈ distinct same l → a ∈ l) → a ∈ (x ∷ l)
+        new (List·Memᴰ·head e) ih = List·Memᴰ·head e
+        new (List·Memᴰ·tail k) ih = List·Memᴰ·tail (ih k)
+
+        go : Dec (T (any (same x) (distinct same l))) → (a ∈ distinct same l → a ∈ l) → a ∈ (x ∷ l)
+        go (yes h) ih = List·Memᴰ·tail (ih (rw (distinct-again x l h) at m))
+        go (no h) ih = new (rw (distinct-new x l h) at m) ih
+
+    -- none twice
+    pub distinct-unique : (l : List A) → Unique (distinct same l)
+    unfolding distinct
+    distinct-unique [] = tt
+    distinct-unique (x ∷ l) = go (test (any (same x) (distinct same l))) (distinct-unique l)
+      where
+        go : Dec (T (any (same x) (distinct same l))) → Unique (distinct same l) → Unique (distinct same (x ∷ l))
+        go (yes h) ih = rw (distinct-again x l h) ih
+        go (no h) ih = rw (distinct-new x l h) (λ m. h (listed-in m), ih)
+
+    -- to count the distinct members: the members alone decide
+    pub length-distinct : (s t : List A) → Within s t → Within t s → length (distinct same s) ≡ length (distinct same t)
+    length-distinct s t st ts =
+        same-length (distinct same s) (distinct same t) (distinct-unique s) (distinct-unique t)
+        (λ a m. distinct-in t a (st a (distinct-out s a m)))
+        (λ a m. distinct-in s a (ts a (distinct-out t a m)))

@@ -1,0 +1,41 @@
+-- A computed test as a fact, T: how to split on it, its value, T of 'and' and 'or'.
+-- Not here: tests on numbers (lib.Dec; borrow.Author.Tests), a test and its negation (T-not, not-T in lib.Dec). Assumes nothing.
+use mathlib.Core.Path.{_≡_, refl}
+use mathlib.Core.Logic.{_⊎_, inl, inr}
+use mathlib.Core.Bool.{Bool, true, false, _&&_, _||_}
+use lib.Dec.{T}
+
+-- to split a proof on a test
+pub test : (b : Bool) → Dec (T b)
+test true = yes tt
+test false = no (λ h. h)
+
+-- from the kit's `b ≡ true` and back; `rw (true-out b h)` and `rw (false-out b h)` go on with a choice by the test
+pub true-in : (b : Bool) → b ≡ true → T b
+true-in b e = rw e tt
+
+pub true-out : (b : Bool) → T b → b ≡ true
+true-out true h = refl
+
+pub false-out : (b : Bool) → (T b → ⊥) → b ≡ false
+false-out true h = absurd (h tt)
+false-out false h = refl
+
+-- ---- and, or
+
+pub and-in : (a b : Bool) → T a → T b → T (a && b)
+and-in true b h k = k
+
+pub and-out : (a b : Bool) → T (a && b) → T a × T b
+and-out true b h = (tt, h)
+
+pub or-left : (a b : Bool) → T a → T (a || b)
+or-left true b h = tt
+
+pub or-right : (a b : Bool) → T b → T (a || b)
+or-right true b h = tt
+or-right false b h = h
+
+pub or-out : (a b : Bool) → T (a || b) → T a ⊎ T b
+or-out true b h = inl tt
+or-out false b h = inr h

@@ -1,0 +1,5 @@
+pub mod Paths
+pub mod Cost
+pub mod Recurrence
+pub mod Order
+pub mod Ranked

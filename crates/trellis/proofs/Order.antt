@@ -1,0 +1,83 @@
+-- Node order is a strict total order: of nodes by level, then state; of entries by cost first. A branch leads to a later entry.
+-- Assumes nothing.
+use mathlib.Core.Path.{_≡_}
+use mathlib.Core.Logic.{_⊎_, inl, inr}
+use Prim.Native.Nat.{ℕ, _<_}
+use native.Mathlib.Omega.{arith}
+use lib.Dec.{T, ltb, ltb→lt, lt→ltb}
+use Rattle.lists.proofs.Sorted.{Order}
+use Rattle.lists.proofs.Lexicographic.{compared, lexicographic-lt, lexicographic-eq, lexicographic-out, lexicographic-order}
+use Rattle.trellis.specs.Trellis.{Trellis, Node, node}
+use Rattle.trellis.specs.Verdict.{Entry, earlier, before}
+use Rattle.trellis.specs.Sheet.{onto}
+use Rattle.trellis.proofs.Paths.{node-path}
+
+-- ---- level, then state
+
+-- earlier, spelled out
+abbrev pub Earlier : Node → Node → Type 0
+Earlier x y = (x .level < y .level) ⊎ ((x .level ≡ y .level) × (x .state < y .state))
+
+pub earlier-in : (x y : Node) → Earlier x y → T (earlier x y)
+earlier-in x y (inl h) = lexicographic-lt (λ (x : Node). x .level) (λ x y. ltb (x .state) (y .state)) x y h
+earlier-in x y (inr h) = lexicographic-eq (λ (x : Node). x .level) (λ x y. ltb (x .state) (y .state)) x y (h .0) (lt→ltb (x .state) (y .state) (h .1))
+
+pub earlier-out : (x y : Node) → T (earlier x y) → Earlier x y
+earlier-out x y h = go (lexicographic-out (λ (x : Node). x .level) (λ x y. ltb (x .state) (y .state)) x y h)
+  where
+    go : (x .level < y .level) ⊎ ((x .level ≡ y .level) × T (ltb (x .state) (y .state))) → Earlier x y
+    go (inl k) = inl k
+    go (inr k) = inr (k .0, ltb→lt (x .state) (y .state) (k .1))
+
+pub earlier-order : Order earlier
+earlier-order = lexicographic-order (λ (x : Node). x .level) (λ x y. ltb (x .state) (y .state))
+    (λ x h. let k : x .state < x .state = ltb→lt (x .state) (x .state) h in omega arith)
+    (λ x y z h k. lt→ltb (x .state) (z .state) (omega (arith, ltb→lt (x .state) (y .state) h, ltb→lt (y .state) (z .state) k)))
+    (λ x y e. go x y e (compared (x .state) (y .state)))
+  where
+    go : (x y : Node) → x .level ≡ y .level → (x .state < y .state) ⊎ ((x .state ≡ y .state) ⊎ (y .state < x .state))
+        → T (ltb (x .state) (y .state)) ⊎ ((x ≡ y) ⊎ T (ltb (y .state) (x .state)))
+    go x y e (inl h) = inl (lt→ltb (x .state) (y .state) h)
+    go x y e (inr (inl q)) = inr (inl (node-path e q))
+    go x y e (inr (inr h)) = inr (inr (lt→ltb (y .state) (x .state) h))
+
+-- ---- cost, then level, then state
+
+-- before, spelled out
+abbrev pub Before : Entry → Entry → Type 0
+Before x y = (x .cost < y .cost) ⊎ ((x .cost ≡ y .cost) × Earlier (x .node) (y .node))
+
+pub before-in : (x y : Entry) → Before x y → T (before x y)
+before-in x y (inl h) = lexicographic-lt (λ (x : Entry). x .cost) (λ x y. earlier (x .node) (y .node)) x y h
+before-in x y (inr h) = lexicographic-eq (λ (x : Entry). x .cost) (λ x y. earlier (x .node) (y .node)) x y (h .0) (earlier-in (x .node) (y .node) (h .1))
+
+pub before-out : (x y : Entry) → T (before x y) → Before x y
+before-out x y h = go (lexicographic-out (λ (x : Entry). x .cost) (λ x y. earlier (x .node) (y .node)) x y h)
+  where
+    go : (x .cost < y .cost) ⊎ ((x .cost ≡ y .cost) × T (earlier (x .node) (y .node))) → Before x y
+    go (inl k) = inl k
+    go (inr k) = inr (k .0, earlier-out (x .node) (y .node) (k .1))
+
+pub entry-path : {x y : Entry} → x .cost ≡ y .cost → x .node ≡ y .node → x ≡ y
+entry-path p q = λ i. record { cost = p i; node = q i }
+
+pub before-order : Order before
+before-order = lexicographic-order (λ (x : Entry). x .cost) (λ x y. earlier (x .node) (y .node))
+    (λ x h. earlier-order .irrefl (x .node) h)
+    (λ x y z h k. earlier-order .trans (x .node) (y .node) (z .node) h k)
+    (λ x y e. go x y e (earlier-order .total (x .node) (y .node)))
+  where
+    go : (x y : Entry) → x .cost ≡ y .cost → T (earlier (x .node) (y .node)) ⊎ ((x .node ≡ y .node) ⊎ T (earlier (y .node) (x .node)))
+        → T (earlier (x .node) (y .node)) ⊎ ((x ≡ y) ⊎ T (earlier (y .node) (x .node)))
+    go x y e (inl h) = inl h
+    go x y e (inr (inl q)) = inr (inl (entry-path e q))
+    go x y e (inr (inr h)) = inr (inr h)
+
+-- metrics do not fall and the level rises: what a branch brings stands later than the entry that it leaves
+pub onto-later : (t : Trellis) (e : Entry) (b : ℕ) → T (before e (onto t e b))
+onto-later t e b = go (compared (e .cost) (onto t e b .cost))
+  where
+    go : (e .cost < onto t e b .cost) ⊎ ((e .cost ≡ onto t e b .cost) ⊎ (onto t e b .cost < e .cost)) → T (before e (onto t e b))
+    go (inl h) = before-in e (onto t e b) (inl h)
+    go (inr (inl q)) = before-in e (onto t e b) (inr (q, inl (omega arith)))
+    go (inr (inr h)) = absurd (omega arith)

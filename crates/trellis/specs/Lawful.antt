@@ -1,0 +1,18 @@
+-- Which paths are allowed, and what the laws of the verdict ask of a trellis: that every message's path ends in the terminal.
+-- Not believed: no contract's meaning rests on it, a code's trellis is shown to be lawful. Assumes nothing.
+use mathlib.Core.Path.{_≡_}
+use mathlib.Core.List.{[], _∷_}
+use Prim.Native.Nat.{ℕ, _<_}
+use lib.ListN.{length}
+use Rattle.trellis.specs.Trellis.{Trellis, Path, top, allowed, ends}
+
+-- every input of the path is allowed at its level
+pub data Allowed (t : Trellis) : Path → Type 0 where
+  start : Allowed t []
+  step : {b : ℕ} {p : Path} → b < allowed t (length p) → Allowed t p → Allowed t (b ∷ p)
+
+pub record Lawful (t : Trellis) : Type 0 where
+  -- the tail brings every path to state 0
+  pub closes : (p : Path) → Allowed t p → length p ≡ top t → ends t p ≡ 0
+  -- a step of the message has an input, so there is a message
+  pub wide : 0 < t .inputs
