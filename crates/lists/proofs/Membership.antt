@@ -10,7 +10,7 @@ use native.Mathlib.Nat.{le-of-suc-le-suc, not-suc-le-zero}
 use native.Mathlib.Decide.{ℕ-discrete}
 use native.Mathlib.Omega.{arith}
 use lib.Dec.{T}
-use lib.ListN.{take}
+use lib.ListN.{length, take}
 use Rattle.lists.specs.Lists.{_∈_, all, any, keep, below}
 use Rattle.lists.proofs.Tests.{test, and-in, and-out, or-left, or-right, or-out, true-out, false-out}
 
@@ -27,6 +27,10 @@ module _ {A : Type 0} where
   pub every-cons : (P : A → Type 0) {x : A} {xs : List A} → P x → Every P xs → Every P (x ∷ xs)
   every-cons P h k a (List·Memᴰ·head e) = subst P (sym e) h
   every-cons P h k a (List·Memᴰ·tail m) = k a m
+
+  -- a list with a member is not empty
+  pub member-length : {l : List A} {a : A} → a ∈ l → 0 < length l
+  member-length {l = x ∷ l} m = omega arith
 
   -- ---- take
 
