@@ -2,40 +2,41 @@
 -- the least paths to the terminal (law 6). The verdict from them stands at the end. How large a metric can be is in Bounds.
 -- Assumes nothing.
 use mathlib.Core.Path.{_≡_, refl, sym, ap, _∙_, subst}
-use mathlib.Core.List.{List, [], _∷_, _++_, map, reverse, reverse-reverse, List·Memᴰ·head, List·Memᴰ·tail, List·Memᴰ·not-nil, List·Memᴰ·eq-of-singleton, Memᴰ·cast}
+use mathlib.Core.List.{List, [], _∷_, _++_, map, reverse, reverse-reverse}
 use Prim.Native.Nat.{ℕ, zero, suc, _+_, _≤_, _<_}
 use native.Mathlib.Omega.{arith}
 use lib.Dec.{eqb, eqb→eq, eqb-refl}
 use lib.ListN.{length, drop, replicate, length-append, length-replicate, length-reverse, length-drop, length-map}
 use lib.Seq.{drop-at}
 use Rattle.lists.specs.Lists.{_∈_, least}
-use Rattle.lists.proofs.Membership.{Every, every-cons, member-length, keep-in, keep-out, map-in, map-out, reverse-out}
+use Rattle.lists.proofs.Membership.{here, further, nil-out, singleton-out, member-cast, Every, every-cons, member-length, keep-in, keep-out, map-in, map-out, reverse-out}
 use Rattle.lists.proofs.Unique.{Unique, keep-unique, map-unique}
 use Rattle.lists.proofs.Least.{least-le, least-of}
 use Rattle.lists.proofs.Words.{grown-in, grown-out, grown-unique}
 use Rattle.trellis.specs.Trellis.{Trellis, Path, top, allowed, terminal, metric}
 use Rattle.trellis.specs.Verdict.{words, messages, pathOf, leastMetric, leastMessages, steps, answered, tied, decided}
-use Rattle.trellis.specs.Lawful.{Allowed, start, step, Lawful}
+use Rattle.trellis.specs.Lawful.{Allowed, start, step, messageOf, Lawful}
 use Rattle.trellis.proofs.Paths.{Ends, Reached, allowed-message, allowed-tail, allowed-top}
 use Rattle.trellis.proofs.Cost.{Cost, cost-unique, LeastPaths, leastPaths-length}
 
 -- ---- messages
-
-pub words-in : (n : ℕ) (w : List ℕ) → Every (λ b. b < n) w → w ∈ words n (length w)
-unfolding words
-words-in n [] h = List·Memᴰ·head refl
-words-in n (b ∷ w) h = grown-in n (h b (List·Memᴰ·head refl)) (words-in n w (λ a m. h a (List·Memᴰ·tail m)))
 
 -- what a word is
 pub record Word (n k : ℕ) (w : List ℕ) : Type 0 where
   pub length : length w ≡ k
   pub fits : Every (λ b. b < n) w
 
+-- the words are all lists of k numbers below n, each once
+pub words-in : (n : ℕ) (w : List ℕ) → Every (λ b. b < n) w → w ∈ words n (length w)
+unfolding words
+words-in n [] h = here refl
+words-in n (b ∷ w) h = grown-in n (h b (here refl)) (words-in n w (λ a m. h a (further m)))
+
 pub words-out : (n k : ℕ) {w : List ℕ} → w ∈ words n k → Word n k w
 unfolding words
 words-out n zero {w} m =
-    let e : w ≡ [] = List·Memᴰ·eq-of-singleton m in
-    record { length = ap length e; fits = (λ b k. absurd (List·Memᴰ·not-nil (subst (λ (l : List ℕ). b ∈ l) e k))) }
+    let e : w ≡ [] = singleton-out m in
+    record { length = ap length e; fits = (λ b k. absurd (nil-out (subst (λ (l : List ℕ). b ∈ l) e k))) }
 words-out n (suc k) {w} m =
     let r = grown-out n (words n k) m in
     let h = words-out n k (r .member) in
@@ -46,24 +47,20 @@ words-out n (suc k) {w} m =
 
 pub words-unique : (n k : ℕ) → Unique (words n k)
 unfolding words
-words-unique n zero = (λ m. List·Memᴰ·not-nil m, tt)
+words-unique n zero = (λ m. nil-out m, tt)
 words-unique n (suc k) = grown-unique n (words n k) (words-unique n k)
 
 -- ---- the path of a message, and the message of a path
-
--- the inverse of pathOf: the path without its tail, the first input first
-pub messageOf : Trellis → Path → List ℕ
-messageOf t p = reverse (drop (t .tail) p)
 
 -- below the tail: the inputs are those of a message
 span-allowed : (t : Trellis) (p : Path) → length p ≤ t .span → Every (λ b. b < t .inputs) p → Allowed t p
 span-allowed t [] h f = start
 span-allowed t (b ∷ p) h f =
-    let k : b < allowed t (length p) = rw (allowed-message t (length p) h) (f b (List·Memᴰ·head refl)) in
-    step k (span-allowed t p (omega arith) (λ a m. f a (List·Memᴰ·tail m)))
+    let k : b < allowed t (length p) = rw (allowed-message t (length p) h) (f b (here refl)) in
+    step k (span-allowed t p (omega arith) (λ a m. f a (further m)))
 
 span-fits : {t : Trellis} {p : Path} → Allowed t p → length p ≤ t .span → Every (λ b. b < t .inputs) p
-span-fits start h b m = absurd (List·Memᴰ·not-nil m)
+span-fits start h b m = absurd (nil-out m)
 span-fits {t} (step {p = p} k al) h b m = every-cons (λ b. b < t .inputs) (rw (allowed-message t (length p) h) at k) (span-fits al (omega arith)) b m
 
 -- in the tail: zeros
@@ -93,7 +90,7 @@ tail-zeros t (suc k) (b ∷ p) e (step h al) =
     record { zeros = λ i. z i ∷ r .zeros i; rest = r .rest }
 
 module _ (t : Trellis) where
-  -- a message's path is allowed and comes to the top
+  -- a message's path is allowed
   pub pathOf-allowed : {w : List ℕ} → w ∈ messages t → Allowed t (pathOf t w)
   unfolding messages pathOf
   pathOf-allowed {w} m =
@@ -101,6 +98,7 @@ module _ (t : Trellis) where
       let n : length (reverse w) ≡ t .span = length-reverse w ∙ h .length in
       tail-allowed t (t .tail) (reverse w) (omega arith) n (span-allowed t (reverse w) (omega arith) (λ b k. h .fits b (reverse-out w b k)))
 
+  -- so its level is the terminal's
   pub pathOf-length : {w : List ℕ} → w ∈ messages t → length (pathOf t w) ≡ top t
   unfolding messages pathOf
   pathOf-length {w} m =
@@ -109,19 +107,21 @@ module _ (t : Trellis) where
 
   -- one to one: back from the path comes the message
   pub messageOf-pathOf : (w : List ℕ) → messageOf t (pathOf t w) ≡ w
-  unfolding messageOf pathOf
+  unfolding pathOf
   messageOf-pathOf w = ap reverse (drop-at (replicate (t .tail) 0) (reverse w) (t .tail) (length-replicate (t .tail) 0)) ∙ reverse-reverse w
 
+  -- so no two messages share a path
   pub pathOf-injective : (v w : List ℕ) → pathOf t v ≡ pathOf t w → v ≡ w
   pathOf-injective v w e = sym (messageOf-pathOf v) ∙ ap (messageOf t) e ∙ messageOf-pathOf w
 
   -- onto: every allowed path to the top is its message's path
   pub pathOf-messageOf : {p : Path} → Allowed t p → length p ≡ top t → pathOf t (messageOf t p) ≡ p
-  unfolding messageOf pathOf
+  unfolding pathOf
   pathOf-messageOf {p} al e = ap (λ (q : Path). replicate (t .tail) 0 ++ q) (reverse-reverse (drop (t .tail) p)) ∙ sym (tail-zeros t (t .tail) p e al .zeros)
 
+  -- and its message is one of the messages
   pub messageOf-in : {p : Path} → Allowed t p → length p ≡ top t → messageOf t p ∈ messages t
-  unfolding messageOf messages
+  unfolding messages
   messageOf-in {p} al e =
       let d : Path = drop (t .tail) p in
       let n : length d ≡ t .span = omega (arith, length-drop (t .tail) p) in
@@ -130,30 +130,36 @@ module _ (t : Trellis) where
 
 -- ---- the least messages
 
+-- a message's metric
+abbrev pub metricOf : Trellis → List ℕ → ℕ
+metricOf t w = metric t (pathOf t w)
+
 -- what a least message is
 pub record Least (t : Trellis) (w : List ℕ) : Type 0 where
   pub member : w ∈ messages t
-  pub paid : metric t (pathOf t w) ≡ leastMetric t
+  pub paid : metricOf t w ≡ leastMetric t
 
+-- to go from the list to what it says, and back
 pub leastMessages-in : {t : Trellis} {w : List ℕ} → Least t w → w ∈ leastMessages t
 unfolding leastMessages
-leastMessages-in {t} h = keep-in (λ w. eqb (metric t (pathOf t w)) (leastMetric t)) (h .member) (rw (h .paid) (eqb-refl (leastMetric t)))
+leastMessages-in {t} h = keep-in (λ w. eqb (metricOf t w) (leastMetric t)) (h .member) (rw (h .paid) (eqb-refl (leastMetric t)))
 
 pub leastMessages-out : (t : Trellis) {w : List ℕ} → w ∈ leastMessages t → Least t w
 unfolding leastMessages
 leastMessages-out t {w} m =
-    let r = keep-out (λ w. eqb (metric t (pathOf t w)) (leastMetric t)) (messages t) m in
-    record { member = r .member; paid = eqb→eq (metric t (pathOf t w)) (leastMetric t) (r .passes) }
+    let r = keep-out (λ w. eqb (metricOf t w) (leastMetric t)) (messages t) m in
+    record { member = r .member; paid = eqb→eq (metricOf t w) (leastMetric t) (r .passes) }
 
--- so their number is how many share the least metric
+-- none twice: their number is how many share the least metric
 pub leastMessages-unique : (t : Trellis) → Unique (leastMessages t)
 unfolding leastMessages messages
-leastMessages-unique t = keep-unique (λ w. eqb (metric t (pathOf t w)) (leastMetric t)) (messages t) (words-unique (t .inputs) (t .span))
+leastMessages-unique t = keep-unique (λ w. eqb (metricOf t w) (leastMetric t)) (messages t) (words-unique (t .inputs) (t .span))
 
+-- what zeros hold
 replicate-out : (n a : ℕ) → Every (λ b. b ≡ a) (replicate n a)
-replicate-out zero a b m = absurd (List·Memᴰ·not-nil m)
-replicate-out (suc n) a b (List·Memᴰ·head e) = e
-replicate-out (suc n) a b (List·Memᴰ·tail m) = replicate-out n a b m
+replicate-out zero a b m = absurd (nil-out m)
+replicate-out (suc n) a b (here e) = e
+replicate-out (suc n) a b (further m) = replicate-out n a b m
 
 module _ {t : Trellis} (law : Lawful t) where
   -- ---- the terminal
@@ -180,14 +186,15 @@ module _ {t : Trellis} (law : Lawful t) where
   pub leastMetric-cost : Cost t (terminal t) (leastMetric t)
   unfolding leastMetric
   leastMetric-cost =
-      let r = map-out (λ w. metric t (pathOf t w)) (messages t) (least-of (map-in (λ w. metric t (pathOf t w)) message-some)) in
+      let r = map-out (metricOf t) (messages t) (least-of (map-in (metricOf t) message-some)) in
       record { path = pathOf t (r .source); there = pathOf-ends (r .member); paid = sym (r .equal); least = (λ p h. low p h) }
     where
-      low : (p : Path) → Ends t (terminal t) p → least (map (λ w. metric t (pathOf t w)) (messages t)) ≤ metric t p
+      low : (p : Path) → Ends t (terminal t) p → least (map (metricOf t) (messages t)) ≤ metric t p
       low p h =
-          let own : metric t (pathOf t (messageOf t p)) ≡ metric t p = ap (metric t) (pathOf-messageOf t (h .allowed) (h .level)) in
-          omega (arith, least-le (map (λ w. metric t (pathOf t w)) (messages t)) (map-in (λ w. metric t (pathOf t w)) (messageOf-in t (h .allowed) (h .level))))
+          let own : metricOf t (messageOf t p) ≡ metric t p = ap (metric t) (pathOf-messageOf t (h .allowed) (h .level)) in
+          omega (arith, least-le (map (metricOf t) (messages t)) (map-in (metricOf t) (messageOf-in t (h .allowed) (h .level))))
 
+  -- to go on with a cost that was found
   pub leastMetric-is : {c : ℕ} → Cost t (terminal t) c → leastMetric t ≡ c
   leastMetric-is h = cost-unique leastMetric-cost h
 
@@ -201,16 +208,17 @@ module _ {t : Trellis} (law : Lawful t) where
     paid = (λ p m. let r = map-out (pathOf t) (leastMessages t) m in ap (metric t) (r .equal) ∙ leastMessages-out t (r .member) .paid);
     full = (λ p h e.
         let q : pathOf t (messageOf t p) ≡ p = pathOf-messageOf t (h .allowed) (h .level) in
-        Memᴰ·cast (sym q) (map-in (pathOf t) (leastMessages-in (record { member = messageOf-in t (h .allowed) (h .level); paid = ap (metric t) q ∙ e }))));
+        member-cast (sym q) (map-in (pathOf t) (leastMessages-in (record { member = messageOf-in t (h .allowed) (h .level); paid = ap (metric t) q ∙ e }))));
   }
 
-  -- some message has the least metric
+  -- never empty: 'some message always has it'
   pub leastMessages-some : 0 < length (leastMessages t)
   leastMessages-some =
       let C = leastMetric-cost in
       omega (arith, length-map (leastMessages t) (pathOf t), member-length (leastMessages-paths .full (C .path) (C .there) (C .paid)))
 
   module _ {c : ℕ} (C : Cost t (terminal t) c) where
+    -- the same, with a cost that was found
     own-paths : LeastPaths t (terminal t) c (map (pathOf t) (leastMessages t))
     own-paths = subst (λ (d : ℕ). LeastPaths t (terminal t) d (map (pathOf t) (leastMessages t))) (leastMetric-is C) leastMessages-paths
 
@@ -224,15 +232,15 @@ module _ {t : Trellis} (law : Lawful t) where
       where
         go : (l : List (List ℕ)) → length l ≡ 1 → ((w : List ℕ) → w ∈ l → pathOf t w ∈ (p ∷ [])) → l ≡ messageOf t p ∷ []
         go [] e f = absurd (omega arith)
-        go (w ∷ []) e f = ap (λ (v : List ℕ). v ∷ []) (sym (messageOf-pathOf t w) ∙ ap (messageOf t) (List·Memᴰ·eq-of-singleton (f w (List·Memᴰ·head refl))))
+        go (w ∷ []) e f = ap (λ (v : List ℕ). v ∷ []) (sym (messageOf-pathOf t w) ∙ ap (messageOf t) (singleton-out (f w (here refl))))
         go (w ∷ v ∷ l) e f = absurd (omega arith)
 
     -- ---- the verdict from them
 
     -- 0: 'if one has'
-    pub decided-one : {p : Path} → LeastPaths t (terminal t) c (p ∷ []) → decided t (leastMessages t) ≡ answered (messageOf t p) c (steps t)
+    pub decided-answered : {p : Path} → LeastPaths t (terminal t) c (p ∷ []) → decided t (leastMessages t) ≡ answered (messageOf t p) c (steps t)
     unfolding decided
-    decided-one r = rw (leastMessages-one r, leastMetric-is C)
+    decided-answered r = rw (leastMessages-one r, leastMetric-is C)
 
     -- '5 if two or more messages have it'
     pub decided-tied : {rs : List Path} → LeastPaths t (terminal t) c rs → 2 ≤ length rs → decided t (leastMessages t) ≡ tied c (steps t)

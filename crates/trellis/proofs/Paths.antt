@@ -1,7 +1,7 @@
 -- The computed lists of paths and nodes hold what their names say: the allowed paths, those that end at a node, the reachable
 -- nodes, each once. Costs are in Cost, what a path's last branch gives in Recurrence. Assumes nothing.
 use mathlib.Core.Path.{_≡_, refl, sym, ap, _∙_, subst}
-use mathlib.Core.List.{[], map, flatMap, List·Memᴰ·head, List·Memᴰ·not-nil, List·Memᴰ·eq-of-singleton, Memᴰ·cast}
+use mathlib.Core.List.{[], map, flatMap}
 use Prim.Native.Nat.{ℕ, zero, suc, _≤_, _<_}
 use native.Mathlib.Omega.{arith}
 use lib.Dec.{T, eqb, ltb, eqb→eq, eqb-refl, ltb→lt}
@@ -9,7 +9,7 @@ use borrow.Author.Tests.{lt-ltb, le-ltb, ltb-false}
 use lib.ListN.{length}
 use Rattle.lists.specs.Lists.{_∈_, below}
 use Rattle.lists.proofs.Tests.{and-in, and-out, test, false-out}
-use Rattle.lists.proofs.Membership.{keep-in, keep-out, map-in, map-out, flatMap-in, flatMap-out, below-in}
+use Rattle.lists.proofs.Membership.{here, nil-out, singleton-out, member-cast, keep-in, keep-out, map-in, map-out, flatMap-in, flatMap-out, below-in}
 use Rattle.lists.proofs.Unique.{Unique, keep-unique}
 use Rattle.lists.proofs.Distinct.{Equality, distinct-in, distinct-out, distinct-unique}
 use Rattle.lists.proofs.Words.{grown-in, grown-out, grown-unique}
@@ -61,12 +61,12 @@ unfolding paths
 paths-in {t} {x} {p} h = subst (λ (l : ℕ). p ∈ paths t l) (h .level) (go (h .allowed))
   where
     go : {q : Path} → Allowed t q → q ∈ paths t (length q)
-    go start = List·Memᴰ·head refl
+    go start = here refl
     go (step {p = q} k al) = grown-in (allowed t (length q)) k (go al)
 
 pub paths-out : (t : Trellis) (k : ℕ) {p : Path} → p ∈ paths t k → Ends t (node k (ends t p)) p
 unfolding paths
-paths-out t zero {p} m = let e : p ≡ [] = List·Memᴰ·eq-of-singleton m in record { allowed = subst (Allowed t) (sym e) start; level = ap length e; state = refl }
+paths-out t zero {p} m = let e : p ≡ [] = singleton-out m in record { allowed = subst (Allowed t) (sym e) start; level = ap length e; state = refl }
 paths-out t (suc k) {p} m =
     let r = grown-out (allowed t k) (paths t k) m in
     let h : Ends t (node k (ends t (r .rest))) (r .rest) = paths-out t k (r .member) in
@@ -75,7 +75,7 @@ paths-out t (suc k) {p} m =
 -- no path is listed twice
 pub paths-unique : (t : Trellis) (k : ℕ) → Unique (paths t k)
 unfolding paths
-paths-unique t zero = (λ m. List·Memᴰ·not-nil m, tt)
+paths-unique t zero = (λ m. nil-out m, tt)
 paths-unique t (suc k) = grown-unique (allowed t k) (paths t k) (paths-unique t k)
 
 -- the paths to a node
@@ -117,7 +117,7 @@ pub reachable-in : {t : Trellis} {x : Node} {p : Path} → Ends t x p → x ∈ 
 unfolding reachable
 reachable-in {t} {x} {p} h =
     distinct-in same same-equality (map (endNode t) (flatMap (paths t) (below (suc (top t))))) x
-    (Memᴰ·cast (node-path (sym (h .level)) (sym (h .state)))
+    (member-cast (node-path (sym (h .level)) (sym (h .state)))
     (map-in (endNode t) (flatMap-in (paths t) (below-in (suc (top t)) (omega (arith, path-short (h .allowed)))) (paths-in (ends-here (h .allowed))))))
 
 pub reachable-out : (t : Trellis) {x : Node} → x ∈ reachable t → Reached t x

@@ -2,11 +2,11 @@
 -- its cost from a node ranked before it. (That a node's successors are all ranked after it does not hold: another path may reach a
 -- successor at less than the node's own cost. What a branch brings stands later: onto-later, in Order.) Assumes nothing.
 use mathlib.Core.Path.{_≡_, refl, sym, ap, subst}
-use mathlib.Core.List.{map, Memᴰ·cast}
+use mathlib.Core.List.{map}
 use Prim.Native.Nat.{ℕ, _<_}
 use lib.Dec.{T}
 use Rattle.lists.specs.Lists.{_∈_}
-use Rattle.lists.proofs.Membership.{map-in, map-out}
+use Rattle.lists.proofs.Membership.{member-cast, map-in, map-out}
 use Rattle.lists.proofs.Unique.{Unique, map-unique}
 use Rattle.lists.proofs.Sorted.{Sorted, sort-in, sort-out, sort-sorted, sorted-unique}
 use Rattle.trellis.specs.Trellis.{Trellis, node, reachable, cost}
@@ -25,7 +25,7 @@ pub ranked-in : {t : Trellis} {e : Entry} → Priced t e → e ∈ ranked t
 unfolding ranked
 ranked-in {t} {e} h =
     sort-in before (map (priced t) (reachable t)) e
-    (Memᴰ·cast (entry-path (cost-computed h) refl) (map-in (priced t) (reachable-in (h .there))))
+    (member-cast (entry-path (cost-computed h) refl) (map-in (priced t) (reachable-in (h .there))))
 
 pub ranked-out : (t : Trellis) {e : Entry} → e ∈ ranked t → Priced t e
 unfolding ranked
