@@ -1,10 +1,10 @@
 -- What the members of a list are: of map, flatMap, keep, take, reverse, the numbers below, and what all and any say of them.
--- A law NAME-in puts a member in, NAME-out says where a member comes from. Members of an append are in mathlib.Core.List.
--- Assumes nothing.
+-- A law NAME-in puts a member in, NAME-out says where a member comes from. The kit's own laws are passed on by such names: a member
+-- is `here` or `further` on; nil-out, singleton-out, append-out; append-left, append-right, map-in. Assumes nothing.
 use mathlib.Core.Path.{_≡_, refl, sym, ap, _∙_, subst}
 use mathlib.Core.Logic.{_⊎_, inl, inr}
-use mathlib.Core.List.{List, [], _∷_, map, flatMap, reverse, reverseAux, Memᴰ·map, Memᴰ·of-map}
-pub use mathlib.Core.List.{List·Memᴰ·head as here, List·Memᴰ·tail as further, List·Memᴰ·not-nil as nil-out, List·Memᴰ·eq-of-singleton as singleton-out, List·Memᴰ·append-cases as append-out, Memᴰ·append-left as append-left, Memᴰ·append-right as append-right, Memᴰ·cast as member-cast}
+use mathlib.Core.List.{List, [], _∷_, map, flatMap, reverse, reverseAux, Memᴰ·of-map}
+pub use mathlib.Core.List.{List·Memᴰ·head as here, List·Memᴰ·tail as further, List·Memᴰ·not-nil as nil-out, List·Memᴰ·eq-of-singleton as singleton-out, List·Memᴰ·append-cases as append-out, Memᴰ·append-left as append-left, Memᴰ·append-right as append-right, Memᴰ·cast as member-cast, Memᴰ·map as map-in}
 use mathlib.Core.Bool.{Bool}
 use Prim.Native.Nat.{ℕ, zero, suc, _≤_, _<_}
 use native.Mathlib.Nat.{le-of-suc-le-suc, not-suc-le-zero}
@@ -81,6 +81,7 @@ module _ {A : Type 0} where
     unfolding keep
     keep-no x l h = rw (false-out (p x) h)
 
+    -- nothing or all of a list is kept
     pub keep-none : (l : List A) → Every (λ x. T (p x) → ⊥) l → keep p l ≡ []
     unfolding keep
     keep-none [] h = refl
@@ -91,6 +92,7 @@ module _ {A : Type 0} where
     keep-every [] h = refl
     keep-every (x ∷ l) h = keep-yes x l (h x (here refl)) ∙ ap (λ (k : List A). x ∷ k) (keep-every l (λ y m. h y (further m)))
 
+    -- the kept members are those that pass
     pub keep-in : {l : List A} {a : A} → a ∈ l → T (p a) → a ∈ keep p l
     keep-in {l = x ∷ l} (here e) h = rw (keep-yes x l (subst (λ (y : A). T (p y)) e h)) (here e)
     keep-in {l = x ∷ l} {a = a} (further m) h = go (test (p x)) (keep-in m h)
@@ -122,6 +124,7 @@ module _ {A : Type 0} where
 
     -- ---- all and any
 
+    -- all: every member passes
     pub all-in : (l : List A) → Every (λ a. T (p a)) l → T (all p l)
     unfolding all
     all-in [] h = tt
@@ -132,6 +135,7 @@ module _ {A : Type 0} where
     all-out (x ∷ l) h a (here e) = subst (λ (y : A). T (p y)) (sym e) (and-out (p x) (all p l) h .0)
     all-out (x ∷ l) h a (further m) = all-out l (and-out (p x) (all p l) h .1) a m
 
+    -- any: some member passes
     pub any-in : {l : List A} {a : A} → a ∈ l → T (p a) → T (any p l)
     unfolding any
     any-in {l = x ∷ l} (here e) h = or-left (p x) (any p l) (subst (λ (y : A). T (p y)) e h)
@@ -159,9 +163,6 @@ module _ {A B : Type 0} where
     pub source : A
     pub member : source ∈ l
     pub equal : b ≡ f source
-
-  pub map-in : (f : A → B) {l : List A} {a : A} → a ∈ l → f a ∈ map f l
-  map-in f m = Memᴰ·map f m
 
   pub map-out : (f : A → B) (l : List A) {b : B} → b ∈ map f l → Mapped f l b
   map-out f l m = let r = Memᴰ·of-map f l m in record { source = r .0; member = r .1; equal = sym (r .2) }
@@ -196,6 +197,7 @@ eq-or-lt k n h = go (ℕ-discrete k n)
     go (yes e) = inl e
     go (no d) = inr (omega arith)
 
+-- the numbers below n
 pub below-in : (n : ℕ) {k : ℕ} → k < n → k ∈ below n
 unfolding below
 below-in zero h = absurd (not-suc-le-zero h)

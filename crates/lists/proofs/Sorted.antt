@@ -36,6 +36,7 @@ module _ {A : Type 0} (less : A → A → Bool) where
   unfolding insert
   insert-later a x l h = rw (false-out (less a x) h)
 
+  -- insert adds its element alone
   pub insert-in : (a : A) (l : List A) → Within (a ∷ l) (insert less a l)
   unfolding insert
   insert-in a [] b m = m
@@ -64,6 +65,7 @@ module _ {A : Type 0} (less : A → A → Bool) where
       go (yes h) ih = rw (insert-here a x l h) at m
       go (no h) ih = later (rw (insert-later a x l h) at m) ih
 
+  -- sort keeps the members
   pub sort-in : (l : List A) → Within l (sort less l)
   unfolding sort
   sort-in (x ∷ l) a (here e) = insert-in x (sort less l) a (here e)
@@ -80,6 +82,7 @@ module _ {A : Type 0} (less : A → A → Bool) where
 
   -- ---- fronts
 
+  -- a front of a sorted list
   pub take-sorted : (n : ℕ) (l : List A) → Sorted l → Sorted (take n l)
   take-sorted zero l s = tt
   take-sorted (suc n) [] s = tt
@@ -98,6 +101,7 @@ module _ {A : Type 0} (less : A → A → Bool) where
   module _ (o : Order) where
     -- ---- sort sorts
 
+    -- by insertion, where no element comes twice
     pub insert-sorted : (a : A) (l : List A) → (a ∈ l → ⊥) → Sorted l → Sorted (insert less a l)
     unfolding insert
     insert-sorted a [] new s = (λ b m. absurd (nil-out m), tt)
@@ -117,6 +121,7 @@ module _ {A : Type 0} (less : A → A → Bool) where
     sort-sorted [] u = tt
     sort-sorted (x ∷ l) u = insert-sorted x (sort less l) (λ m. u .0 (sort-out l x m)) (sort-sorted l (u .1))
 
+    -- so that the members can be counted
     pub sorted-unique : (l : List A) → Sorted l → Unique l
     sorted-unique [] s = tt
     sorted-unique (x ∷ l) s = (λ m. o .irrefl x (s .0 x m), sorted-unique l (s .1))

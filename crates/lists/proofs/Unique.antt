@@ -19,6 +19,7 @@ module _ {A : Type 0} where
   Unique [] = Unit {0}
   Unique (x ∷ xs) = (x ∈ xs → ⊥) × Unique xs
 
+  -- two lists that share no member
   pub append-unique : (s t : List A) → Unique s → Unique t → ((a : A) → a ∈ s → a ∈ t → ⊥) → Unique (s ++ t)
   append-unique [] t u v apart = v
   append-unique (x ∷ s) t u v apart = (λ m. go (append-out s m), append-unique s t (u .1) v (λ a m k. apart a (further m) k))
@@ -27,6 +28,7 @@ module _ {A : Type 0} where
       go (inl m) = u .0 m
       go (inr m) = apart x (here refl) m
 
+  -- a choice of members
   pub keep-unique : (p : A → Bool) (l : List A) → Unique l → Unique (keep p l)
   unfolding keep
   keep-unique p [] u = tt
@@ -85,6 +87,7 @@ module _ {A B : Type 0} where
       go : (c : B) → c ∈ f x → FlatMapped f l c → ⊥
       go c m r = u .0 (member-cast (apart x (r .source) c m (r .inner)) (r .member))
 
+-- the numbers below n
 pub below-unique : (n : ℕ) → Unique (below n)
 unfolding below
 below-unique zero = tt

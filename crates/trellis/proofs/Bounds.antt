@@ -13,8 +13,9 @@ use Rattle.trellis.proofs.Paths.{path-short}
 use Rattle.trellis.proofs.Cost.{Cost}
 use Rattle.trellis.proofs.Messages.{leastMetric-cost}
 
--- ---- a sum over the levels below one
+-- ---- sums
 
+-- a number of each level, added up over the levels below n
 unfoldable pub sumBelow : (ℕ → ℕ) → ℕ → ℕ
 sumBelow f zero = 0
 sumBelow f (suc n) = sumBelow f n + f n
@@ -46,6 +47,7 @@ pub record Bounded (t : Trellis) (bound : ℕ → ℕ) : Type 0 where
   pub within : (l s b : ℕ) → b < allowed t l → t .price l s b ≤ bound l
 
 module _ {t : Trellis} {bound : ℕ → ℕ} (h : Bounded t bound) where
+  -- a metric is at most the sum over its levels
   pub metric-bound : {p : Path} → Allowed t p → metric t p ≤ sumBelow bound (length p)
   unfolding along sumBelow
   metric-bound start = omega arith
@@ -58,5 +60,6 @@ module _ {t : Trellis} {bound : ℕ → ℕ} (h : Bounded t bound) where
   pub cost-bound : {x : Node} {c : ℕ} → Cost t x c → c ≤ sumBelow bound (top t)
   cost-bound k = omega (arith, k .paid, metric-bound-top (k .there .allowed))
 
+  -- so is the decoder's metric
   pub leastMetric-bound : Lawful t → leastMetric t ≤ sumBelow bound (top t)
   leastMetric-bound law = cost-bound (leastMetric-cost law)

@@ -9,14 +9,14 @@ use lib.Dec.{eqb, eqb→eq, eqb-refl}
 use lib.ListN.{length, drop, replicate, length-append, length-replicate, length-reverse, length-drop, length-map}
 use lib.Seq.{drop-at}
 use Rattle.lists.specs.Lists.{_∈_, least}
-use Rattle.lists.proofs.Membership.{here, further, nil-out, singleton-out, member-cast, Every, every-cons, member-length, keep-in, keep-out, map-in, map-out, reverse-out}
-use Rattle.lists.proofs.Unique.{Unique, keep-unique, map-unique}
+use Rattle.lists.proofs.Membership.{here, further, nil-out, singleton-out, member-cast, Every, Within, every-cons, member-length, keep-in, keep-out, map-in, map-out, reverse-out}
+use Rattle.lists.proofs.Unique.{Unique, keep-unique, map-unique, same-length}
 use Rattle.lists.proofs.Least.{least-le, least-of}
 use Rattle.lists.proofs.Words.{grown-in, grown-out, grown-unique}
-use Rattle.trellis.specs.Trellis.{Trellis, Path, top, allowed, terminal, metric}
+use Rattle.trellis.specs.Trellis.{Trellis, Path, top, allowed, terminal, metric, pathsTo}
 use Rattle.trellis.specs.Verdict.{words, messages, pathOf, leastMetric, leastMessages, steps, answered, tied, decided}
 use Rattle.trellis.specs.Lawful.{Allowed, start, step, messageOf, Lawful}
-use Rattle.trellis.proofs.Paths.{Ends, Reached, allowed-message, allowed-tail, allowed-top}
+use Rattle.trellis.proofs.Paths.{Ends, Reached, allowed-message, allowed-tail, allowed-top, pathsTo-in, pathsTo-out, pathsTo-unique}
 use Rattle.trellis.proofs.Cost.{Cost, cost-unique, LeastPaths, leastPaths-length}
 
 -- ---- messages
@@ -45,10 +45,15 @@ words-out n (suc k) {w} m =
       fits = subst (λ (l : List ℕ). Every (λ b. b < n) l) (sym (r .equal)) (every-cons (λ b. b < n) (r .fits) (h .fits));
     }
 
+-- so messages can be counted
 pub words-unique : (n k : ℕ) → Unique (words n k)
 unfolding words
 words-unique n zero = (λ m. nil-out m, tt)
 words-unique n (suc k) = grown-unique n (words n k) (words-unique n k)
+
+pub messages-unique : (t : Trellis) → Unique (messages t)
+unfolding messages
+messages-unique t = words-unique (t .inputs) (t .span)
 
 -- ---- the path of a message, and the message of a path
 
@@ -152,8 +157,8 @@ leastMessages-out t {w} m =
 
 -- none twice: their number is how many share the least metric
 pub leastMessages-unique : (t : Trellis) → Unique (leastMessages t)
-unfolding leastMessages messages
-leastMessages-unique t = keep-unique (λ w. eqb (metricOf t w) (leastMetric t)) (messages t) (words-unique (t .inputs) (t .span))
+unfolding leastMessages
+leastMessages-unique t = keep-unique (λ w. eqb (metricOf t w) (leastMetric t)) (messages t) (messages-unique t)
 
 -- what zeros hold
 replicate-out : (n a : ℕ) → Every (λ b. b ≡ a) (replicate n a)
@@ -170,6 +175,23 @@ module _ {t : Trellis} (law : Lawful t) where
       let al = pathOf-allowed t m in
       let n = pathOf-length t m in
       record { allowed = al; level = n; state = law .closes (pathOf t w) al n }
+
+  -- so the messages' paths are the paths to the terminal
+  pub messages-paths : Within (map (pathOf t) (messages t)) (pathsTo t (terminal t))
+  messages-paths p m = let r = map-out (pathOf t) (messages t) m in member-cast (r .equal) (pathsTo-in (pathOf-ends (r .member)))
+
+  pub paths-messages : Within (pathsTo t (terminal t)) (map (pathOf t) (messages t))
+  paths-messages p m =
+      let h = pathsTo-out t (terminal t) m in
+      member-cast (sym (pathOf-messageOf t (h .allowed) (h .level))) (map-in (pathOf t) (messageOf-in t (h .allowed) (h .level)))
+
+  -- and as many
+  pub length-messages : length (messages t) ≡ length (pathsTo t (terminal t))
+  length-messages =
+      sym (length-map (messages t) (pathOf t))
+      ∙ same-length (map (pathOf t) (messages t)) (pathsTo t (terminal t))
+      (map-unique (pathOf t) (messages t) (λ v w m n e. pathOf-injective t v w e) (messages-unique t)) (pathsTo-unique t (terminal t))
+      messages-paths paths-messages
 
   -- there is a message: zeros
   pub message-some : replicate (t .span) 0 ∈ messages t

@@ -1,5 +1,5 @@
--- Node order is a strict total order: of nodes by level, then state; of entries by cost first. A branch leads to a later entry.
--- Assumes nothing.
+-- Node order is a strict total order: of nodes by level, then state; of entries by cost first. What a branch brings stands later
+-- than the entry that it leaves (law 2). Assumes nothing.
 use mathlib.Core.Path.{_≡_}
 use mathlib.Core.Logic.{_⊎_, inl, inr}
 use Prim.Native.Nat.{ℕ, _<_}
@@ -14,7 +14,7 @@ use Rattle.trellis.proofs.Paths.{node-path}
 
 -- ---- level, then state
 
--- earlier, spelled out
+-- `earlier` spelled out, to split on it or to give its reason
 abbrev pub Earlier : Node → Node → Type 0
 Earlier x y = (x .level < y .level) ⊎ ((x .level ≡ y .level) × (x .state < y .state))
 
@@ -29,6 +29,7 @@ earlier-out x y h = go (lexicographic-out (λ (x : Node). x .level) (λ x y. ltb
     go (inl k) = inl k
     go (inr k) = inr (k .0, ltb→lt (x .state) (y .state) (k .1))
 
+-- what sorting the honest sheet needs
 pub earlier-order : Order earlier
 earlier-order = lexicographic-order (λ (x : Node). x .level) (λ x y. ltb (x .state) (y .state))
     (λ x h. let k : x .state < x .state = ltb→lt (x .state) (x .state) h in omega arith)
@@ -43,7 +44,7 @@ earlier-order = lexicographic-order (λ (x : Node). x .level) (λ x y. ltb (x .s
 
 -- ---- cost, then level, then state
 
--- before, spelled out
+-- `before` spelled out, to split on it or to give its reason
 abbrev pub Before : Entry → Entry → Type 0
 Before x y = (x .cost < y .cost) ⊎ ((x .cost ≡ y .cost) × Earlier (x .node) (y .node))
 
@@ -58,9 +59,11 @@ before-out x y h = go (lexicographic-out (λ (x : Entry). x .cost) (λ x y. earl
     go (inl k) = inl k
     go (inr k) = inr (k .0, earlier-out (x .node) (y .node) (k .1))
 
+-- entries are equal by cost and node
 pub entry-path : {x y : Entry} → x .cost ≡ y .cost → x .node ≡ y .node → x ≡ y
 entry-path p q = λ i. record { cost = p i; node = q i }
 
+-- what ranking needs
 pub before-order : Order before
 before-order = lexicographic-order (λ (x : Entry). x .cost) (λ x y. earlier (x .node) (y .node))
     (λ x h. earlier-order .irrefl (x .node) h)
@@ -73,7 +76,7 @@ before-order = lexicographic-order (λ (x : Entry). x .cost) (λ x y. earlier (x
     go x y e (inr (inl q)) = inr (inl (entry-path e q))
     go x y e (inr (inr h)) = inr (inr h)
 
--- metrics do not fall and the level rises: what a branch brings stands later than the entry that it leaves
+-- metrics do not fall and the level rises, so no later step undercuts an expanded node
 pub onto-later : (t : Trellis) (e : Entry) (b : ℕ) → T (before e (onto t e b))
 onto-later t e b = go (compared (e .cost) (onto t e b .cost))
   where

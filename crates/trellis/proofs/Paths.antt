@@ -18,6 +18,7 @@ use Rattle.trellis.specs.Lawful.{Allowed, start, step}
 
 -- ---- which inputs are allowed
 
+-- to know the number of inputs from where the level lies
 pub allowed-message : (t : Trellis) (l : ℕ) → l < t .span → allowed t l ≡ t .inputs
 unfolding allowed
 allowed-message t l h = rw (lt-ltb l (t .span) h)
@@ -55,7 +56,7 @@ pub path-short : {t : Trellis} {p : Path} → Allowed t p → length p ≤ top t
 path-short start = omega arith
 path-short {t} (step {b = b} {p = p} h al) = allowed-top t (length p) b h
 
--- the paths of a level, whatever their states
+-- the listed paths of a level are the allowed ones, whatever their states
 pub paths-in : {t : Trellis} {x : Node} {p : Path} → Ends t x p → p ∈ paths t (x .level)
 unfolding paths
 paths-in {t} {x} {p} h = subst (λ (l : ℕ). p ∈ paths t l) (h .level) (go (h .allowed))
@@ -78,7 +79,7 @@ unfolding paths
 paths-unique t zero = (λ m. nil-out m, tt)
 paths-unique t (suc k) = grown-unique (allowed t k) (paths t k) (paths-unique t k)
 
--- the paths to a node
+-- the listed paths to a node are the allowed ones that end there
 pub pathsTo-in : {t : Trellis} {x : Node} {p : Path} → Ends t x p → p ∈ pathsTo t x
 unfolding pathsTo
 pathsTo-in {t} {x} h = keep-in (λ p. eqb (ends t p) (x .state)) (paths-in h) (rw (h .state) (eqb-refl (x .state)))
@@ -90,12 +91,14 @@ pathsTo-out t x {p} m =
     let h = paths-out t (x .level) (r .member) in
     record { allowed = h .allowed; level = h .level; state = eqb→eq (ends t p) (x .state) (r .passes) }
 
+-- so they can be counted
 pub pathsTo-unique : (t : Trellis) (x : Node) → Unique (pathsTo t x)
 unfolding pathsTo
 pathsTo-unique t x = keep-unique (λ p. eqb (ends t p) (x .state)) (paths t (x .level)) (paths-unique t (x .level))
 
 -- ---- nodes
 
+-- nodes are equal by level and state
 pub node-path : {x y : Node} → x .level ≡ y .level → x .state ≡ y .state → x ≡ y
 node-path p q = λ i. node (p i) (q i)
 
@@ -113,6 +116,7 @@ pub record Reached (t : Trellis) (x : Node) : Type 0 where
   pub path : Path
   pub there : Ends t x path
 
+-- the reachable nodes are those where a path ends
 pub reachable-in : {t : Trellis} {x : Node} {p : Path} → Ends t x p → x ∈ reachable t
 unfolding reachable
 reachable-in {t} {x} {p} h =
@@ -129,6 +133,7 @@ reachable-out t {x} m =
     let h = paths-out t (s .source) (s .inner) in
     record { path = r .source; there = subst (λ (y : Node). Ends t y (r .source)) (sym (r .equal)) (ends-here (h .allowed)) }
 
+-- so each is ranked once
 pub reachable-unique : (t : Trellis) → Unique (reachable t)
 unfolding reachable
 reachable-unique t = distinct-unique same same-equality (map (endNode t) (flatMap (paths t) (below (suc (top t)))))

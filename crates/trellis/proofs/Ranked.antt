@@ -21,6 +21,7 @@ use Rattle.trellis.proofs.Order.{before-order, entry-path, onto-later}
 abbrev pub Priced : Trellis → Entry → Type 0
 Priced t e = Cost t (e .node) (e .cost)
 
+-- the ranked entries are the reachable nodes with their costs
 pub ranked-in : {t : Trellis} {e : Entry} → Priced t e → e ∈ ranked t
 unfolding ranked
 ranked-in {t} {e} h =
@@ -33,12 +34,14 @@ ranked-out t {e} m =
     let r = map-out (priced t) (reachable t) (sort-out before (map (priced t) (reachable t)) e m) in
     subst (Priced t) (sym (r .equal)) (cost-is (reachable-out t (r .member) .there))
 
+-- so that a front of the list is fixed by its members
 pub ranked-sorted : (t : Trellis) → Sorted before (ranked t)
 unfolding ranked
 ranked-sorted t =
     sort-sorted before before-order (map (priced t) (reachable t))
     (map-unique (priced t) (reachable t) (λ x y m k e. ap (λ (u : Entry). u .node) e) (reachable-unique t))
 
+-- so that ranked nodes can be counted
 pub ranked-unique : (t : Trellis) → Unique (ranked t)
 ranked-unique t = sorted-unique before before-order (ranked t) (ranked-sorted t)
 
