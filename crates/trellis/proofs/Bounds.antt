@@ -60,6 +60,6 @@ module _ {t : Trellis} {bound : ℕ → ℕ} (h : Bounded t bound) where
   pub cost-bound : {x : Node} {c : ℕ} → Cost t x c → c ≤ sumBelow bound (top t)
   cost-bound k = omega (arith, k .paid, metric-bound-top (k .there .allowed))
 
-  -- so is the decoder's metric
+  -- and the decoder's metric
   pub leastMetric-bound : Lawful t → leastMetric t ≤ sumBelow bound (top t)
   leastMetric-bound law = cost-bound (leastMetric-cost law)

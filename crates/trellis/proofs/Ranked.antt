@@ -9,7 +9,7 @@ use Rattle.lists.specs.Lists.{_∈_}
 use Rattle.lists.proofs.Membership.{member-cast, map-in, map-out}
 use Rattle.lists.proofs.Unique.{Unique, map-unique}
 use Rattle.lists.proofs.Sorted.{Sorted, sort-in, sort-out, sort-sorted, sorted-unique}
-use Rattle.trellis.specs.Trellis.{Trellis, node, reachable, cost}
+use Rattle.trellis.specs.Trellis.{Trellis, reachable}
 use Rattle.trellis.specs.Verdict.{Entry, priced, before, ranked}
 use Rattle.trellis.specs.Sheet.{onto}
 use Rattle.trellis.proofs.Paths.{reachable-in, reachable-out, reachable-unique}
