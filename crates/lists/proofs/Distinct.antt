@@ -1,12 +1,12 @@
 -- Each member once, by a test that is equality. Assumes nothing.
 use mathlib.Core.Path.{_≡_}
-use mathlib.Core.List.{List, [], _∷_, List·Memᴰ·head, List·Memᴰ·tail, Memᴰ·cast}
+use mathlib.Core.List.{List, [], _∷_}
 use mathlib.Core.Bool.{Bool}
 use lib.Dec.{T}
 use lib.ListN.{length}
 use Rattle.lists.specs.Lists.{_∈_, any, distinct}
 use Rattle.lists.proofs.Tests.{test, true-out, false-out}
-use Rattle.lists.proofs.Membership.{Within, any-in, any-out}
+use Rattle.lists.proofs.Membership.{here, further, member-cast, Within, any-in, any-out}
 use Rattle.lists.proofs.Unique.{Unique, same-length}
 
 module _ {A : Type 0} where
@@ -21,7 +21,7 @@ module _ {A : Type 0} where
     listed-in {a = a} m = any-in (same a) m (eq .complete a)
 
     pub listed-out : (l : List A) (a : A) → T (any (same a) l) → a ∈ l
-    listed-out l a h = let r = any-out (same a) l h in Memᴰ·cast (eq .sound a (r .which) (r .passes)) (r .member)
+    listed-out l a h = let r = any-out (same a) l h in member-cast (eq .sound a (r .which) (r .passes)) (r .member)
 
     -- how distinct goes on, where it is known if the first comes again
     distinct-again : (x : A) (l : List A) → T (any (same x) (distinct same l)) → distinct same (x ∷ l) ≡ distinct same l
@@ -37,10 +37,10 @@ module _ {A : Type 0} where
     distinct-in (x ∷ l) a m = go (test (any (same x) (distinct same l))) m (λ k. distinct-in l a k)
       where
         go : Dec (T (any (same x) (distinct same l))) → a ∈ (x ∷ l) → (a ∈ l → a ∈ distinct same l) → a ∈ distinct same (x ∷ l)
-        go (yes h) (List·Memᴰ·head e) ih = rw (distinct-again x l h) (Memᴰ·cast e (listed-out (distinct same l) x h))
-        go (yes h) (List·Memᴰ·tail k) ih = rw (distinct-again x l h) (ih k)
-        go (no h) (List·Memᴰ·head e) ih = rw (distinct-new x l h) (List·Memᴰ·head e)
-        go (no h) (List·Memᴰ·tail k) ih = rw (distinct-new x l h) (List·Memᴰ·tail (ih k))
+        go (yes h) (here e) ih = rw (distinct-again x l h) (member-cast e (listed-out (distinct same l) x h))
+        go (yes h) (further k) ih = rw (distinct-again x l h) (ih k)
+        go (no h) (here e) ih = rw (distinct-new x l h) (here e)
+        go (no h) (further k) ih = rw (distinct-new x l h) (further (ih k))
 
     pub distinct-out : (l : List A) → Within (distinct same l) l
     unfolding distinct
@@ -48,11 +48,11 @@ module _ {A : Type 0} where
     distinct-out (x ∷ l) a m = go (test (any (same x) (distinct same l))) (λ k. distinct-out l a k)
       where
         new : a ∈ (x ∷ distinct same l) → (a ∈ distinct same l → a ∈ l) → a ∈ (x ∷ l)
-        new (List·Memᴰ·head e) ih = List·Memᴰ·head e
-        new (List·Memᴰ·tail k) ih = List·Memᴰ·tail (ih k)
+        new (here e) ih = here e
+        new (further k) ih = further (ih k)
 
         go : Dec (T (any (same x) (distinct same l))) → (a ∈ distinct same l → a ∈ l) → a ∈ (x ∷ l)
-        go (yes h) ih = List·Memᴰ·tail (ih (rw (distinct-again x l h) at m))
+        go (yes h) ih = further (ih (rw (distinct-again x l h) at m))
         go (no h) ih = new (rw (distinct-new x l h) at m) ih
 
     -- none twice

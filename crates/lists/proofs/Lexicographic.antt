@@ -23,6 +23,7 @@ module _ {A : Type 0} (key : A → ℕ) (less : A → A → Bool) where
   abbrev pub lexicographic : A → A → Bool
   lexicographic x y = ltb (key x) (key y) || (eqb (key x) (key y) && less x y)
 
+  -- the two reasons for the test, and the split on it
   pub lexicographic-lt : (x y : A) → key x < key y → T (lexicographic x y)
   lexicographic-lt x y h = or-left (ltb (key x) (key y)) _ (lt→ltb (key x) (key y) h)
 
@@ -36,7 +37,7 @@ module _ {A : Type 0} (key : A → ℕ) (less : A → A → Bool) where
       go (inl k) = inl (ltb→lt (key x) (key y) k)
       go (inr k) = let r = and-out (eqb (key x) (key y)) (less x y) k in inr (eqb→eq (key x) (key y) (r .0), r .1)
 
-  -- the second order need be total only where the numbers are equal
+  -- a strict total order, if the second one is, which need be total only where the numbers are equal
   pub lexicographic-order :
       ((x : A) → T (less x x) → ⊥)
       → ((x y z : A) → T (less x y) → T (less y z) → T (less x z))

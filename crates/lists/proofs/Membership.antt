@@ -1,16 +1,17 @@
 -- What the members of a list are: of map, flatMap, keep, take, reverse, the numbers below, and what all and any say of them.
--- A law NAME-in puts a member in, NAME-out says where a member comes from. Members of an append are in mathlib.Core.List.
--- Assumes nothing.
+-- A law NAME-in puts a member in, NAME-out says where a member comes from. The kit's own laws are passed on by such names: a member
+-- is `here` or `further` on; nil-out, singleton-out, append-out; append-left, append-right, map-in. Assumes nothing.
 use mathlib.Core.Path.{_≡_, refl, sym, ap, _∙_, subst}
 use mathlib.Core.Logic.{_⊎_, inl, inr}
-use mathlib.Core.List.{List, [], _∷_, map, flatMap, reverse, reverseAux, List·Memᴰ·head, List·Memᴰ·tail, List·Memᴰ·not-nil, List·Memᴰ·append-cases, Memᴰ·append-left, Memᴰ·append-right, Memᴰ·map, Memᴰ·of-map}
+use mathlib.Core.List.{List, [], _∷_, map, flatMap, reverse, reverseAux, Memᴰ·of-map}
+pub use mathlib.Core.List.{List·Memᴰ·head as here, List·Memᴰ·tail as further, List·Memᴰ·not-nil as nil-out, List·Memᴰ·eq-of-singleton as singleton-out, List·Memᴰ·append-cases as append-out, Memᴰ·append-left as append-left, Memᴰ·append-right as append-right, Memᴰ·cast as member-cast, Memᴰ·map as map-in}
 use mathlib.Core.Bool.{Bool}
 use Prim.Native.Nat.{ℕ, zero, suc, _≤_, _<_}
 use native.Mathlib.Nat.{le-of-suc-le-suc, not-suc-le-zero}
 use native.Mathlib.Decide.{ℕ-discrete}
 use native.Mathlib.Omega.{arith}
 use lib.Dec.{T}
-use lib.ListN.{take}
+use lib.ListN.{length, take}
 use Rattle.lists.specs.Lists.{_∈_, all, any, keep, below}
 use Rattle.lists.proofs.Tests.{test, and-in, and-out, or-left, or-right, or-out, true-out, false-out}
 
@@ -25,25 +26,29 @@ module _ {A : Type 0} where
 
   -- to show a fact of every member, the first apart
   pub every-cons : (P : A → Type 0) {x : A} {xs : List A} → P x → Every P xs → Every P (x ∷ xs)
-  every-cons P h k a (List·Memᴰ·head e) = subst P (sym e) h
-  every-cons P h k a (List·Memᴰ·tail m) = k a m
+  every-cons P h k a (here e) = subst P (sym e) h
+  every-cons P h k a (further m) = k a m
+
+  -- a list with a member is not empty
+  pub member-length : {l : List A} {a : A} → a ∈ l → 0 < length l
+  member-length {l = x ∷ l} m = omega arith
 
   -- ---- take
 
   -- a member of a front is a member
   pub take-out : (n : ℕ) (l : List A) → Within (take n l) l
-  take-out zero l a m = absurd (List·Memᴰ·not-nil m)
+  take-out zero l a m = absurd (nil-out m)
   take-out (suc n) [] a m = m
-  take-out (suc n) (x ∷ l) a (List·Memᴰ·head e) = List·Memᴰ·head e
-  take-out (suc n) (x ∷ l) a (List·Memᴰ·tail m) = List·Memᴰ·tail (take-out n l a m)
+  take-out (suc n) (x ∷ l) a (here e) = here e
+  take-out (suc n) (x ∷ l) a (further m) = further (take-out n l a m)
 
   -- a longer front has all members of a shorter one
   pub take-more : (m n : ℕ) (l : List A) → m ≤ n → Within (take m l) (take n l)
-  take-more zero n l h a m = absurd (List·Memᴰ·not-nil m)
+  take-more zero n l h a m = absurd (nil-out m)
   take-more (suc m) zero l h a k = absurd (not-suc-le-zero h)
   take-more (suc m) (suc n) [] h a k = k
-  take-more (suc m) (suc n) (x ∷ l) h a (List·Memᴰ·head e) = List·Memᴰ·head e
-  take-more (suc m) (suc n) (x ∷ l) h a (List·Memᴰ·tail k) = List·Memᴰ·tail (take-more m n l (le-of-suc-le-suc h) a k)
+  take-more (suc m) (suc n) (x ∷ l) h a (here e) = here e
+  take-more (suc m) (suc n) (x ∷ l) h a (further k) = further (take-more m n l (le-of-suc-le-suc h) a k)
 
   -- ---- reverse
 
@@ -52,9 +57,9 @@ module _ {A : Type 0} where
   reverseAux-out (x ∷ l) r {a} m = go (reverseAux-out l (x ∷ r) m)
     where
       go : (a ∈ l) ⊎ (a ∈ (x ∷ r)) → (a ∈ (x ∷ l)) ⊎ (a ∈ r)
-      go (inl k) = inl (List·Memᴰ·tail k)
-      go (inr (List·Memᴰ·head e)) = inl (List·Memᴰ·head e)
-      go (inr (List·Memᴰ·tail k)) = inr k
+      go (inl k) = inl (further k)
+      go (inr (here e)) = inl (here e)
+      go (inr (further k)) = inr k
 
   -- the same members; the other way by reverse-reverse
   pub reverse-out : (l : List A) → Within (reverse l) l
@@ -62,7 +67,7 @@ module _ {A : Type 0} where
     where
       go : (a ∈ l) ⊎ (a ∈ []) → a ∈ l
       go (inl k) = k
-      go (inr k) = absurd (List·Memᴰ·not-nil k)
+      go (inr k) = absurd (nil-out k)
 
   module _ (p : A → Bool) where
     -- ---- keep
@@ -76,22 +81,24 @@ module _ {A : Type 0} where
     unfolding keep
     keep-no x l h = rw (false-out (p x) h)
 
+    -- nothing or all of a list is kept
     pub keep-none : (l : List A) → Every (λ x. T (p x) → ⊥) l → keep p l ≡ []
     unfolding keep
     keep-none [] h = refl
-    keep-none (x ∷ l) h = keep-no x l (h x (List·Memᴰ·head refl)) ∙ keep-none l (λ y m. h y (List·Memᴰ·tail m))
+    keep-none (x ∷ l) h = keep-no x l (h x (here refl)) ∙ keep-none l (λ y m. h y (further m))
 
     pub keep-every : (l : List A) → Every (λ x. T (p x)) l → keep p l ≡ l
     unfolding keep
     keep-every [] h = refl
-    keep-every (x ∷ l) h = keep-yes x l (h x (List·Memᴰ·head refl)) ∙ ap (λ (k : List A). x ∷ k) (keep-every l (λ y m. h y (List·Memᴰ·tail m)))
+    keep-every (x ∷ l) h = keep-yes x l (h x (here refl)) ∙ ap (λ (k : List A). x ∷ k) (keep-every l (λ y m. h y (further m)))
 
+    -- the kept members are those that pass
     pub keep-in : {l : List A} {a : A} → a ∈ l → T (p a) → a ∈ keep p l
-    keep-in {l = x ∷ l} (List·Memᴰ·head e) h = rw (keep-yes x l (subst (λ (y : A). T (p y)) e h)) (List·Memᴰ·head e)
-    keep-in {l = x ∷ l} {a = a} (List·Memᴰ·tail m) h = go (test (p x)) (keep-in m h)
+    keep-in {l = x ∷ l} (here e) h = rw (keep-yes x l (subst (λ (y : A). T (p y)) e h)) (here e)
+    keep-in {l = x ∷ l} {a = a} (further m) h = go (test (p x)) (keep-in m h)
       where
         go : Dec (T (p x)) → a ∈ keep p l → a ∈ keep p (x ∷ l)
-        go (yes t) k = rw (keep-yes x l t) (List·Memᴰ·tail k)
+        go (yes t) k = rw (keep-yes x l t) (further k)
         go (no t) k = rw (keep-no x l t) k
 
     -- where a kept member comes from
@@ -101,15 +108,15 @@ module _ {A : Type 0} where
 
     pub keep-out : (l : List A) {a : A} → a ∈ keep p l → Kept l a
     unfolding keep
-    keep-out [] m = absurd (List·Memᴰ·not-nil m)
+    keep-out [] m = absurd (nil-out m)
     keep-out (x ∷ l) {a} m = go (test (p x)) (λ k. keep-out l k)
       where
         later : Kept l a → Kept (x ∷ l) a
-        later r = record { member = List·Memᴰ·tail (r .member); passes = r .passes }
+        later r = record { member = further (r .member); passes = r .passes }
 
         first : T (p x) → (a ∈ keep p l → Kept l a) → a ∈ (x ∷ keep p l) → Kept (x ∷ l) a
-        first t ih (List·Memᴰ·head e) = record { member = List·Memᴰ·head e; passes = subst (λ (y : A). T (p y)) (sym e) t }
-        first t ih (List·Memᴰ·tail k) = later (ih k)
+        first t ih (here e) = record { member = here e; passes = subst (λ (y : A). T (p y)) (sym e) t }
+        first t ih (further k) = later (ih k)
 
         go : Dec (T (p x)) → (a ∈ keep p l → Kept l a) → Kept (x ∷ l) a
         go (yes t) ih = first t ih (rw (keep-yes x l t) at m)
@@ -117,20 +124,22 @@ module _ {A : Type 0} where
 
     -- ---- all and any
 
+    -- all: every member passes
     pub all-in : (l : List A) → Every (λ a. T (p a)) l → T (all p l)
     unfolding all
     all-in [] h = tt
-    all-in (x ∷ l) h = and-in (p x) (all p l) (h x (List·Memᴰ·head refl)) (all-in l (λ a m. h a (List·Memᴰ·tail m)))
+    all-in (x ∷ l) h = and-in (p x) (all p l) (h x (here refl)) (all-in l (λ a m. h a (further m)))
 
     pub all-out : (l : List A) → T (all p l) → Every (λ a. T (p a)) l
     unfolding all
-    all-out (x ∷ l) h a (List·Memᴰ·head e) = subst (λ (y : A). T (p y)) (sym e) (and-out (p x) (all p l) h .0)
-    all-out (x ∷ l) h a (List·Memᴰ·tail m) = all-out l (and-out (p x) (all p l) h .1) a m
+    all-out (x ∷ l) h a (here e) = subst (λ (y : A). T (p y)) (sym e) (and-out (p x) (all p l) h .0)
+    all-out (x ∷ l) h a (further m) = all-out l (and-out (p x) (all p l) h .1) a m
 
+    -- any: some member passes
     pub any-in : {l : List A} {a : A} → a ∈ l → T (p a) → T (any p l)
     unfolding any
-    any-in {l = x ∷ l} (List·Memᴰ·head e) h = or-left (p x) (any p l) (subst (λ (y : A). T (p y)) e h)
-    any-in {l = x ∷ l} (List·Memᴰ·tail m) h = or-right (p x) (any p l) (any-in m h)
+    any-in {l = x ∷ l} (here e) h = or-left (p x) (any p l) (subst (λ (y : A). T (p y)) e h)
+    any-in {l = x ∷ l} (further m) h = or-right (p x) (any p l) (any-in m h)
 
     -- the member that passes
     pub record Passing (l : List A) : Type 0 where
@@ -143,8 +152,8 @@ module _ {A : Type 0} where
     any-out (x ∷ l) h = go (or-out (p x) (any p l) h) (λ k. any-out l k)
       where
         go : T (p x) ⊎ T (any p l) → (T (any p l) → Passing l) → Passing (x ∷ l)
-        go (inl t) ih = record { which = x; member = List·Memᴰ·head refl; passes = t }
-        go (inr k) ih = let r = ih k in record { which = r .which; member = List·Memᴰ·tail (r .member); passes = r .passes }
+        go (inl t) ih = record { which = x; member = here refl; passes = t }
+        go (inr k) ih = let r = ih k in record { which = r .which; member = further (r .member); passes = r .passes }
 
 -- ---- map and flatMap
 
@@ -154,9 +163,6 @@ module _ {A B : Type 0} where
     pub source : A
     pub member : source ∈ l
     pub equal : b ≡ f source
-
-  pub map-in : (f : A → B) {l : List A} {a : A} → a ∈ l → f a ∈ map f l
-  map-in f m = Memᴰ·map f m
 
   pub map-out : (f : A → B) (l : List A) {b : B} → b ∈ map f l → Mapped f l b
   map-out f l m = let r = Memᴰ·of-map f l m in record { source = r .0; member = r .1; equal = sym (r .2) }
@@ -169,17 +175,17 @@ module _ {A B : Type 0} where
 
   pub flatMap-in : (f : A → List B) {l : List A} {a : A} {b : B} → a ∈ l → b ∈ f a → b ∈ flatMap f l
   unfolding flatMap
-  flatMap-in f {l = x ∷ l} {b = b} (List·Memᴰ·head e) k = Memᴰ·append-left (flatMap f l) (subst (λ (y : A). b ∈ f y) e k)
-  flatMap-in f {l = x ∷ l} (List·Memᴰ·tail m) k = Memᴰ·append-right (f x) (flatMap-in f m k)
+  flatMap-in f {l = x ∷ l} {b = b} (here e) k = append-left (flatMap f l) (subst (λ (y : A). b ∈ f y) e k)
+  flatMap-in f {l = x ∷ l} (further m) k = append-right (f x) (flatMap-in f m k)
 
   pub flatMap-out : (f : A → List B) (l : List A) {b : B} → b ∈ flatMap f l → FlatMapped f l b
   unfolding flatMap
-  flatMap-out f [] m = absurd (List·Memᴰ·not-nil m)
-  flatMap-out f (x ∷ l) {b} m = go (List·Memᴰ·append-cases (f x) m) (λ k. flatMap-out f l k)
+  flatMap-out f [] m = absurd (nil-out m)
+  flatMap-out f (x ∷ l) {b} m = go (append-out (f x) m) (λ k. flatMap-out f l k)
     where
       go : (b ∈ f x) ⊎ (b ∈ flatMap f l) → (b ∈ flatMap f l → FlatMapped f l b) → FlatMapped f (x ∷ l) b
-      go (inl k) ih = record { source = x; member = List·Memᴰ·head refl; inner = k }
-      go (inr k) ih = let r = ih k in record { source = r .source; member = List·Memᴰ·tail (r .member); inner = r .inner }
+      go (inl k) ih = record { source = x; member = here refl; inner = k }
+      go (inr k) ih = let r = ih k in record { source = r .source; member = further (r .member); inner = r .inner }
 
 -- ---- numbers
 
@@ -191,17 +197,18 @@ eq-or-lt k n h = go (ℕ-discrete k n)
     go (yes e) = inl e
     go (no d) = inr (omega arith)
 
+-- the numbers below n
 pub below-in : (n : ℕ) {k : ℕ} → k < n → k ∈ below n
 unfolding below
 below-in zero h = absurd (not-suc-le-zero h)
 below-in (suc n) {k} h = go (eq-or-lt k n h) (λ l. below-in n l)
   where
     go : (k ≡ n) ⊎ (k < n) → (k < n → k ∈ below n) → k ∈ (n ∷ below n)
-    go (inl e) ih = List·Memᴰ·head e
-    go (inr l) ih = List·Memᴰ·tail (ih l)
+    go (inl e) ih = here e
+    go (inr l) ih = further (ih l)
 
 pub below-out : (n : ℕ) {k : ℕ} → k ∈ below n → k < n
 unfolding below
-below-out zero m = absurd (List·Memᴰ·not-nil m)
-below-out (suc n) (List·Memᴰ·head e) = omega arith
-below-out (suc n) {k} (List·Memᴰ·tail m) = let h : k < n = below-out n m in omega arith
+below-out zero m = absurd (nil-out m)
+below-out (suc n) (here e) = omega arith
+below-out (suc n) {k} (further m) = let h : k < n = below-out n m in omega arith

@@ -2,7 +2,7 @@
 -- of it are fixed by their members. Assumes nothing.
 use mathlib.Core.Path.{_≡_, refl, sym, ap, ap₂, _∙_, subst}
 use mathlib.Core.Logic.{_⊎_, inl, inr}
-use mathlib.Core.List.{List, [], _∷_, _++_, List·Memᴰ·head, List·Memᴰ·tail, List·Memᴰ·not-nil, Memᴰ·append-right}
+use mathlib.Core.List.{List, [], _∷_, _++_}
 use mathlib.Core.Bool.{Bool}
 use Prim.Native.Nat.{ℕ, zero, suc}
 use lib.Dec.{T}
@@ -10,7 +10,7 @@ use lib.ListN.{length, take}
 use lib.Seq.{take-length}
 use Rattle.lists.specs.Lists.{_∈_, keep, insert, sort}
 use Rattle.lists.proofs.Tests.{test, true-out, false-out}
-use Rattle.lists.proofs.Membership.{Every, Within, every-cons, take-out, keep-yes, keep-none}
+use Rattle.lists.proofs.Membership.{here, further, nil-out, append-right, Every, Within, every-cons, take-out, keep-yes, keep-none}
 use Rattle.lists.proofs.Unique.{Unique, same-length}
 
 module _ {A : Type 0} (less : A → A → Bool) where
@@ -36,6 +36,7 @@ module _ {A : Type 0} (less : A → A → Bool) where
   unfolding insert
   insert-later a x l h = rw (false-out (less a x) h)
 
+  -- insert adds its element alone
   pub insert-in : (a : A) (l : List A) → Within (a ∷ l) (insert less a l)
   unfolding insert
   insert-in a [] b m = m
@@ -43,9 +44,9 @@ module _ {A : Type 0} (less : A → A → Bool) where
     where
       go : Dec (T (less a x)) → b ∈ (a ∷ x ∷ l) → (b ∈ (a ∷ l) → b ∈ insert less a l) → b ∈ insert less a (x ∷ l)
       go (yes h) k ih = rw (insert-here a x l h) k
-      go (no h) (List·Memᴰ·head e) ih = rw (insert-later a x l h) (List·Memᴰ·tail (ih (List·Memᴰ·head e)))
-      go (no h) (List·Memᴰ·tail (List·Memᴰ·head e)) ih = rw (insert-later a x l h) (List·Memᴰ·head e)
-      go (no h) (List·Memᴰ·tail (List·Memᴰ·tail k)) ih = rw (insert-later a x l h) (List·Memᴰ·tail (ih (List·Memᴰ·tail k)))
+      go (no h) (here e) ih = rw (insert-later a x l h) (further (ih (here e)))
+      go (no h) (further (here e)) ih = rw (insert-later a x l h) (here e)
+      go (no h) (further (further k)) ih = rw (insert-later a x l h) (further (ih (further k)))
 
   pub insert-out : (a : A) (l : List A) → Within (insert less a l) (a ∷ l)
   unfolding insert
@@ -53,21 +54,22 @@ module _ {A : Type 0} (less : A → A → Bool) where
   insert-out a (x ∷ l) b m = go (test (less a x)) (λ k. insert-out a l b k)
     where
       shift : b ∈ (a ∷ l) → b ∈ (a ∷ x ∷ l)
-      shift (List·Memᴰ·head e) = List·Memᴰ·head e
-      shift (List·Memᴰ·tail k) = List·Memᴰ·tail (List·Memᴰ·tail k)
+      shift (here e) = here e
+      shift (further k) = further (further k)
 
       later : b ∈ (x ∷ insert less a l) → (b ∈ insert less a l → b ∈ (a ∷ l)) → b ∈ (a ∷ x ∷ l)
-      later (List·Memᴰ·head e) ih = List·Memᴰ·tail (List·Memᴰ·head e)
-      later (List·Memᴰ·tail k) ih = shift (ih k)
+      later (here e) ih = further (here e)
+      later (further k) ih = shift (ih k)
 
       go : Dec (T (less a x)) → (b ∈ insert less a l → b ∈ (a ∷ l)) → b ∈ (a ∷ x ∷ l)
       go (yes h) ih = rw (insert-here a x l h) at m
       go (no h) ih = later (rw (insert-later a x l h) at m) ih
 
+  -- sort keeps the members
   pub sort-in : (l : List A) → Within l (sort less l)
   unfolding sort
-  sort-in (x ∷ l) a (List·Memᴰ·head e) = insert-in x (sort less l) a (List·Memᴰ·head e)
-  sort-in (x ∷ l) a (List·Memᴰ·tail m) = insert-in x (sort less l) a (List·Memᴰ·tail (sort-in l a m))
+  sort-in (x ∷ l) a (here e) = insert-in x (sort less l) a (here e)
+  sort-in (x ∷ l) a (further m) = insert-in x (sort less l) a (further (sort-in l a m))
 
   pub sort-out : (l : List A) → Within (sort less l) l
   unfolding sort
@@ -75,11 +77,12 @@ module _ {A : Type 0} (less : A → A → Bool) where
   sort-out (x ∷ l) a m = go (insert-out x (sort less l) a m) (λ k. sort-out l a k)
     where
       go : a ∈ (x ∷ sort less l) → (a ∈ sort less l → a ∈ l) → a ∈ (x ∷ l)
-      go (List·Memᴰ·head e) ih = List·Memᴰ·head e
-      go (List·Memᴰ·tail k) ih = List·Memᴰ·tail (ih k)
+      go (here e) ih = here e
+      go (further k) ih = further (ih k)
 
   -- ---- fronts
 
+  -- a front of a sorted list
   pub take-sorted : (n : ℕ) (l : List A) → Sorted l → Sorted (take n l)
   take-sorted zero l s = tt
   take-sorted (suc n) [] s = tt
@@ -87,25 +90,26 @@ module _ {A : Type 0} (less : A → A → Bool) where
 
   -- a member of a sorted list is in the front, or all of the front is before it
   pub take-or-after : (n : ℕ) (l : List A) → Sorted l → (a : A) → a ∈ l → (a ∈ take n l) ⊎ Every (λ x. T (less x a)) (take n l)
-  take-or-after zero l s a m = inr (λ b k. absurd (List·Memᴰ·not-nil k))
-  take-or-after (suc n) (x ∷ l) s a (List·Memᴰ·head e) = inl (List·Memᴰ·head e)
-  take-or-after (suc n) (x ∷ l) s a (List·Memᴰ·tail m) = go (take-or-after n l (s .1) a m)
+  take-or-after zero l s a m = inr (λ b k. absurd (nil-out k))
+  take-or-after (suc n) (x ∷ l) s a (here e) = inl (here e)
+  take-or-after (suc n) (x ∷ l) s a (further m) = go (take-or-after n l (s .1) a m)
     where
       go : (a ∈ take n l) ⊎ Every (λ y. T (less y a)) (take n l) → (a ∈ (x ∷ take n l)) ⊎ Every (λ y. T (less y a)) (x ∷ take n l)
-      go (inl k) = inl (List·Memᴰ·tail k)
+      go (inl k) = inl (further k)
       go (inr k) = inr (every-cons (λ y. T (less y a)) (s .0 a m) k)
 
   module _ (o : Order) where
     -- ---- sort sorts
 
+    -- by insertion, where no element comes twice
     pub insert-sorted : (a : A) (l : List A) → (a ∈ l → ⊥) → Sorted l → Sorted (insert less a l)
     unfolding insert
-    insert-sorted a [] new s = (λ b m. absurd (List·Memᴰ·not-nil m), tt)
-    insert-sorted a (x ∷ l) new s = go (test (less a x)) (insert-sorted a l (λ m. new (List·Memᴰ·tail m)) (s .1))
+    insert-sorted a [] new s = (λ b m. absurd (nil-out m), tt)
+    insert-sorted a (x ∷ l) new s = go (test (less a x)) (insert-sorted a l (λ m. new (further m)) (s .1))
       where
         late : (T (less a x) → ⊥) → T (less a x) ⊎ ((a ≡ x) ⊎ T (less x a)) → T (less x a)
         late n (inl h) = absurd (n h)
-        late n (inr (inl e)) = absurd (new (List·Memᴰ·head e))
+        late n (inr (inl e)) = absurd (new (here e))
         late n (inr (inr h)) = h
 
         go : Dec (T (less a x)) → Sorted (insert less a l) → Sorted (insert less a (x ∷ l))
@@ -117,6 +121,7 @@ module _ {A : Type 0} (less : A → A → Bool) where
     sort-sorted [] u = tt
     sort-sorted (x ∷ l) u = insert-sorted x (sort less l) (λ m. u .0 (sort-out l x m)) (sort-sorted l (u .1))
 
+    -- so that the members can be counted
     pub sorted-unique : (l : List A) → Sorted l → Unique l
     sorted-unique [] s = tt
     sorted-unique (x ∷ l) s = (λ m. o .irrefl x (s .0 x m), sorted-unique l (s .1))
@@ -126,30 +131,30 @@ module _ {A : Type 0} (less : A → A → Bool) where
     -- a front of a sorted list: its members are in the list, and every other element of the list is after all of them
     pub front : (p l : List A) → Sorted p → Sorted l → Within p l → ((a : A) → a ∈ l → (a ∈ p) ⊎ Every (λ x. T (less x a)) p) → take (length p) l ≡ p
     front [] l sp sl w f = refl
-    front (x ∷ p) [] sp sl w f = absurd (List·Memᴰ·not-nil (w x (List·Memᴰ·head refl)))
+    front (x ∷ p) [] sp sl w f = absurd (nil-out (w x (here refl)))
     front (x ∷ p) (y ∷ l) sp sl w f =
-        ap₂ (λ (u : A) (v : List A). u ∷ v) (sym first) (front p l (sp .1) (sl .1) (λ a m. rest a m (w a (List·Memᴰ·tail m))) (λ a m. others a m (f a (List·Memᴰ·tail m))))
+        ap₂ (λ (u : A) (v : List A). u ∷ v) (sym first) (front p l (sp .1) (sl .1) (λ a m. rest a m (w a (further m))) (λ a m. others a m (f a (further m))))
       where
         no-cycle : T (less y x) → (y ∈ (x ∷ p)) ⊎ Every (λ u. T (less u y)) (x ∷ p) → ⊥
-        no-cycle h (inl (List·Memᴰ·head e)) = o .irrefl x (subst (λ (u : A). T (less u x)) e h)
-        no-cycle h (inl (List·Memᴰ·tail m)) = o .irrefl x (o .trans x y x (sp .0 y m) h)
-        no-cycle h (inr g) = o .irrefl x (o .trans x y x (g x (List·Memᴰ·head refl)) h)
+        no-cycle h (inl (here e)) = o .irrefl x (subst (λ (u : A). T (less u x)) e h)
+        no-cycle h (inl (further m)) = o .irrefl x (o .trans x y x (sp .0 y m) h)
+        no-cycle h (inr g) = o .irrefl x (o .trans x y x (g x (here refl)) h)
 
         pick : x ∈ (y ∷ l) → x ≡ y
-        pick (List·Memᴰ·head e) = e
-        pick (List·Memᴰ·tail m) = absurd (no-cycle (sl .0 x m) (f y (List·Memᴰ·head refl)))
+        pick (here e) = e
+        pick (further m) = absurd (no-cycle (sl .0 x m) (f y (here refl)))
 
         first : x ≡ y
-        first = pick (w x (List·Memᴰ·head refl))
+        first = pick (w x (here refl))
 
         rest : (a : A) → a ∈ p → a ∈ (y ∷ l) → a ∈ l
-        rest a m (List·Memᴰ·head e) = absurd (o .irrefl a (subst (λ (u : A). T (less u a)) (first ∙ sym e) (sp .0 a m)))
-        rest a m (List·Memᴰ·tail k) = k
+        rest a m (here e) = absurd (o .irrefl a (subst (λ (u : A). T (less u a)) (first ∙ sym e) (sp .0 a m)))
+        rest a m (further k) = k
 
         others : (a : A) → a ∈ l → (a ∈ (x ∷ p)) ⊎ Every (λ u. T (less u a)) (x ∷ p) → (a ∈ p) ⊎ Every (λ u. T (less u a)) p
-        others a m (inl (List·Memᴰ·head e)) = absurd (o .irrefl a (subst (λ (u : A). T (less u a)) (sym (e ∙ first)) (sl .0 a m)))
-        others a m (inl (List·Memᴰ·tail k)) = inl k
-        others a m (inr g) = inr (λ u k. g u (List·Memᴰ·tail k))
+        others a m (inl (here e)) = absurd (o .irrefl a (subst (λ (u : A). T (less u a)) (sym (e ∙ first)) (sl .0 a m)))
+        others a m (inl (further k)) = inl k
+        others a m (inr g) = inr (λ u k. g u (further k))
 
     -- two sorted lists with the same members are one list
     pub sorted-same : (s t : List A) → Sorted s → Sorted t → Within s t → Within t s → s ≡ t
@@ -161,5 +166,5 @@ module _ {A : Type 0} (less : A → A → Bool) where
     pub keep-before : (p q : List A) (z : A) → Sorted (p ++ z ∷ q) → keep (λ x. less x z) (p ++ z ∷ q) ≡ p
     keep-before [] q z s = keep-none (λ x. less x z) (z ∷ q) (every-cons (λ x. T (less x z) → ⊥) (o .irrefl z) (λ x m h. o .irrefl z (o .trans z x z (s .0 x m) h)))
     keep-before (x ∷ p) q z s =
-        keep-yes (λ x. less x z) x (p ++ z ∷ q) (s .0 z (Memᴰ·append-right p (List·Memᴰ·head refl)))
+        keep-yes (λ x. less x z) x (p ++ z ∷ q) (s .0 z (append-right p (here refl)))
         ∙ ap (λ (l : List A). x ∷ l) (keep-before p q z (s .1))

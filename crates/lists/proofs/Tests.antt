@@ -23,12 +23,14 @@ false-out false h = refl
 
 -- ---- and, or
 
+-- both
 pub and-in : (a b : Bool) → T a → T b → T (a && b)
 and-in true b h k = k
 
 pub and-out : (a b : Bool) → T (a && b) → T a × T b
 and-out true b h = (tt, h)
 
+-- one of them
 pub or-left : (a b : Bool) → T a → T (a || b)
 or-left true b h = tt
 

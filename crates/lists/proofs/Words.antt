@@ -18,6 +18,7 @@ pub record Grown (n : ℕ) (ps : List (List ℕ)) (q : List ℕ) : Type 0 where
   pub member : rest ∈ ps
   pub equal : q ≡ first ∷ rest
 
+-- the members are the lists with one number more
 pub grown-in : (n : ℕ) {ps : List (List ℕ)} {b : ℕ} {p : List ℕ} → b < n → p ∈ ps → (b ∷ p) ∈ grown n ps
 grown-in n {p = p} h m = flatMap-in (λ p. map (λ b. b ∷ p) (below n)) m (map-in (λ b. b ∷ p) (below-in n h))
 
@@ -27,6 +28,7 @@ grown-out n ps m =
     let s = map-out (λ b. b ∷ r .source) (below n) (r .inner) in
     record { first = s .source; rest = r .source; fits = below-out n (s .member); member = r .member; equal = s .equal }
 
+-- so that paths and messages can be counted
 pub grown-unique : (n : ℕ) (ps : List (List ℕ)) → Unique ps → Unique (grown n ps)
 grown-unique n ps u =
     flatMap-unique (λ p. map (λ b. b ∷ p) (below n)) ps

@@ -3,3 +3,5 @@ pub mod Cost
 pub mod Recurrence
 pub mod Order
 pub mod Ranked
+pub mod Messages
+pub mod Bounds

@@ -2,14 +2,14 @@
 -- its cost from a node ranked before it. (That a node's successors are all ranked after it does not hold: another path may reach a
 -- successor at less than the node's own cost. What a branch brings stands later: onto-later, in Order.) Assumes nothing.
 use mathlib.Core.Path.{_≡_, refl, sym, ap, subst}
-use mathlib.Core.List.{map, Memᴰ·cast}
+use mathlib.Core.List.{map}
 use Prim.Native.Nat.{ℕ, _<_}
 use lib.Dec.{T}
 use Rattle.lists.specs.Lists.{_∈_}
-use Rattle.lists.proofs.Membership.{map-in, map-out}
+use Rattle.lists.proofs.Membership.{member-cast, map-in, map-out}
 use Rattle.lists.proofs.Unique.{Unique, map-unique}
 use Rattle.lists.proofs.Sorted.{Sorted, sort-in, sort-out, sort-sorted, sorted-unique}
-use Rattle.trellis.specs.Trellis.{Trellis, node, reachable, cost}
+use Rattle.trellis.specs.Trellis.{Trellis, reachable}
 use Rattle.trellis.specs.Verdict.{Entry, priced, before, ranked}
 use Rattle.trellis.specs.Sheet.{onto}
 use Rattle.trellis.proofs.Paths.{reachable-in, reachable-out, reachable-unique}
@@ -21,11 +21,12 @@ use Rattle.trellis.proofs.Order.{before-order, entry-path, onto-later}
 abbrev pub Priced : Trellis → Entry → Type 0
 Priced t e = Cost t (e .node) (e .cost)
 
+-- the ranked entries are the reachable nodes with their costs
 pub ranked-in : {t : Trellis} {e : Entry} → Priced t e → e ∈ ranked t
 unfolding ranked
 ranked-in {t} {e} h =
     sort-in before (map (priced t) (reachable t)) e
-    (Memᴰ·cast (entry-path (cost-computed h) refl) (map-in (priced t) (reachable-in (h .there))))
+    (member-cast (entry-path (cost-computed h) refl) (map-in (priced t) (reachable-in (h .there))))
 
 pub ranked-out : (t : Trellis) {e : Entry} → e ∈ ranked t → Priced t e
 unfolding ranked
@@ -33,12 +34,14 @@ ranked-out t {e} m =
     let r = map-out (priced t) (reachable t) (sort-out before (map (priced t) (reachable t)) e m) in
     subst (Priced t) (sym (r .equal)) (cost-is (reachable-out t (r .member) .there))
 
+-- so that a front of the list is fixed by its members
 pub ranked-sorted : (t : Trellis) → Sorted before (ranked t)
 unfolding ranked
 ranked-sorted t =
     sort-sorted before before-order (map (priced t) (reachable t))
     (map-unique (priced t) (reachable t) (λ x y m k e. ap (λ (u : Entry). u .node) e) (reachable-unique t))
 
+-- so that ranked nodes can be counted
 pub ranked-unique : (t : Trellis) → Unique (ranked t)
 ranked-unique t = sorted-unique before before-order (ranked t) (ranked-sorted t)
 

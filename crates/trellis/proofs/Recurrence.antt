@@ -2,16 +2,18 @@
 -- reachable predecessors, of their cost and the branch (law 1, second half). What a sweep of the levels cites.
 -- Assumes nothing.
 use mathlib.Core.Path.{_≡_, sym, ap, _∙_, subst}
-use mathlib.Core.List.{[], _∷_, map}
+use mathlib.Core.List.{List, [], _∷_, map, flatMap}
 use Prim.Native.Nat.{ℕ, suc, _+_, _≤_, _<_}
 use native.Mathlib.Omega.{arith}
+use lib.Dec.{T}
 use lib.ListN.{length}
-use Rattle.lists.specs.Lists.{_∈_, below}
-use Rattle.lists.proofs.Membership.{map-in, map-out, below-in, below-out}
-use Rattle.trellis.specs.Trellis.{Trellis, Path, Node, node, allowed, ends, along, metric, endNode, origin, cost, successors}
+use Rattle.lists.specs.Lists.{_∈_, keep, below, least}
+use Rattle.lists.proofs.Membership.{member-cast, keep-in, keep-out, map-in, map-out, flatMap-in, flatMap-out, below-in, below-out}
+use Rattle.lists.proofs.Least.{least-le, least-of}
+use Rattle.trellis.specs.Trellis.{Trellis, Path, Node, node, allowed, ends, along, metric, endNode, same, origin, reachable, cost, successors}
 use Rattle.trellis.specs.Lawful.{Allowed, step}
-use Rattle.trellis.proofs.Paths.{Ends, Reached, ends-here, node-path}
-use Rattle.trellis.proofs.Cost.{Cost, cost-is}
+use Rattle.trellis.proofs.Paths.{Ends, Reached, ends-here, node-path, same-equality, reachable-in, reachable-out}
+use Rattle.trellis.proofs.Cost.{Cost, cost-is, cost-computed}
 
 -- ---- branches
 
@@ -28,10 +30,12 @@ pub record Enters (t : Trellis) (x : Node) (from : Node) (input : ℕ) : Type 0 
   pub fits : input < allowed t (from .level)
   pub leads : x ≡ onward t from input
 
+-- the successors are the nodes that allowed branches enter
 pub successors-in : {t : Trellis} {x y : Node} {b : ℕ} → Enters t y x b → y ∈ successors t x
 unfolding successors
 successors-in {t} {x} h = subst (λ (z : Node). z ∈ map (λ b. onward t x b) (below (allowed t (x .level)))) (sym (h .leads)) (map-in (λ b. onward t x b) (below-in (allowed t (x .level)) (h .fits)))
 
+-- the branch by which y succeeds x
 pub record Succeeds (t : Trellis) (x y : Node) : Type 0 where
   pub input : ℕ
   pub enters : Enters t y x input
@@ -65,6 +69,7 @@ ends-rest h = go (h .allowed)
     go : {t : Trellis} {b : ℕ} {p : Path} → Allowed t (b ∷ p) → Ends t (endNode t p) p
     go (step k al) = ends-here al
 
+-- and the branch enters the path's node
 pub ends-last : {t : Trellis} {x : Node} {b : ℕ} {p : Path} → Ends t x (b ∷ p) → Enters t x (endNode t p) b
 unfolding ends
 ends-last h = record { fits = go (h .allowed); leads = node-path (sym (h .level)) (sym (h .state)) }
@@ -74,11 +79,11 @@ ends-last h = record { fits = go (h .allowed); leads = node-path (sym (h .level)
 
 -- ---- costs by predecessors
 
--- no way into x is cheaper than from a node at its cost
+-- a node costs at most what any branch into it brings
 pub cost-enters : {t : Trellis} {x y : Node} {b c d : ℕ} → Cost t x c → Cost t y d → Enters t x y b → c ≤ d + fare t y b
 cost-enters {b = b} h k e = omega (arith, h .least (b ∷ k .path) (extend (k .there) e), metric-extend b (k .there), k .paid)
 
--- the last branch of a least path: it leaves a node at that node's cost
+-- a branch into x from a node at that node's cost, and their sum c
 pub record Predecessor (t : Trellis) (x : Node) (c : ℕ) : Type 0 where
   pub from : Node
   pub input : ℕ
@@ -87,6 +92,7 @@ pub record Predecessor (t : Trellis) (x : Node) (c : ℕ) : Type 0 where
   pub known : Cost t from spent
   pub paid : spent + fare t from input ≡ c
 
+-- what a least path ends with
 pub predecessor : {t : Trellis} {x : Node} {c : ℕ} → 0 < x .level → Cost t x c → Predecessor t x c
 predecessor {t} {x} {c} up h = go (h .path) (h .there) (h .paid)
   where
@@ -104,7 +110,7 @@ predecessor {t} {x} {c} up h = go (h .path) (h .there) (h .paid)
           paid = omega (arith, metric-extend b (ends-rest e), cost-enters h k (ends-last e));
         }
 
--- a node with a predecessor whose sum no other undercuts has that sum as its cost
+-- and back: the least such sum is the cost
 pub cost-from : {t : Trellis} {x : Node} {c : ℕ} → Predecessor t x c
     → ((y : Node) (b d : ℕ) → Cost t y d → Enters t x y b → c ≤ d + fare t y b) → Cost t x c
 cost-from {t} {x} {c} r low = record {
@@ -120,8 +126,53 @@ cost-from {t} {x} {c} r low = record {
         let k : Cost t (endNode t p) (cost t (endNode t p)) = cost-is (ends-rest h) in
         omega (arith, metric-extend b (ends-rest h), k .least p (ends-rest h), low (endNode t p) b (cost t (endNode t p)) k (ends-last h))
 
+-- ---- the recurrence, computed
+
+-- what the branches from y into x bring, y being left at its cost; and from all reachable nodes
+abbrev arrivalsFrom : Trellis → Node → Node → List ℕ
+arrivalsFrom t x y = map (λ b. cost t y + fare t y b) (keep (λ b. same (onward t y b) x) (below (allowed t (y .level))))
+
+unfoldable pub arrivals : Trellis → Node → List ℕ
+arrivals t x = flatMap (arrivalsFrom t x) (reachable t)
+
+-- to go from the list to a predecessor, and back
+pub arrivals-in : {t : Trellis} {x : Node} {c : ℕ} → Predecessor t x c → c ∈ arrivals t x
+unfolding arrivals
+arrivals-in {t} {x} {c} r =
+    let y : Node = r .from in
+    let fits = below-in (allowed t (y .level)) (r .enters .fits) in
+    let leads : T (same (onward t y (r .input)) x) = subst (λ (z : Node). T (same (onward t y (r .input)) z)) (sym (r .enters .leads)) (same-equality .complete (onward t y (r .input))) in
+    let paid : c ≡ cost t y + fare t y (r .input) = omega (arith, r .paid, cost-computed (r .known)) in
+    member-cast paid
+    (flatMap-in (arrivalsFrom t x) (reachable-in (r .known .there))
+    (map-in (λ b. cost t y + fare t y b) (keep-in (λ b. same (onward t y b) x) fits leads)))
+
+pub arrivals-out : (t : Trellis) (x : Node) {c : ℕ} → c ∈ arrivals t x → Predecessor t x c
+unfolding arrivals
+arrivals-out t x m =
+    let r = flatMap-out (arrivalsFrom t x) (reachable t) m in
+    let y : Node = r .source in
+    let a = map-out (λ b. cost t y + fare t y b) (keep (λ b. same (onward t y b) x) (below (allowed t (y .level)))) (r .inner) in
+    let k = keep-out (λ b. same (onward t y b) x) (below (allowed t (y .level))) (a .member) in
+    record {
+      from = y;
+      input = a .source;
+      enters = record { fits = below-out (allowed t (y .level)) (k .member); leads = sym (same-equality .sound (onward t y (a .source)) x (k .passes)) };
+      spent = cost t y;
+      known = cost-is (reachable-out t (r .member) .there);
+      paid = sym (a .equal);
+    }
+
+-- the cost of a node above level 0 is the least of what its branches bring
+pub cost-recurrence : {t : Trellis} {x : Node} {c : ℕ} → 0 < x .level → Cost t x c → c ≡ least (arrivals t x)
+cost-recurrence {t} {x} up h =
+    let m = arrivals-in (predecessor up h) in
+    let r = arrivals-out t x (least-of m) in
+    omega (arith, least-le (arrivals t x) m, cost-enters h (r .known) (r .enters), r .paid)
+
 -- ---- reachability by predecessors
 
+-- a node is reachable exactly if it is the origin or a predecessor of it is
 pub reached-step : {t : Trellis} {x y : Node} {b : ℕ} → Reached t y → Enters t x y b → Reached t x
 reached-step {b = b} r e = record { path = b ∷ r .path; there = extend (r .there) e }
 

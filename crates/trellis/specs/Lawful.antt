@@ -1,15 +1,19 @@
--- Which paths are allowed, and what the laws of the verdict ask of a trellis: that every message's path ends in the terminal.
--- Not believed: no contract's meaning rests on it, a code's trellis is shown to be lawful. Assumes nothing.
+-- Which paths are allowed, the message of a path, and what the laws of the verdict ask of a trellis: that every message's path ends
+-- in the terminal. Not believed: the verdict is said without them; a code's trellis is shown to be lawful. Assumes nothing.
 use mathlib.Core.Path.{_≡_}
-use mathlib.Core.List.{[], _∷_}
+use mathlib.Core.List.{List, [], _∷_, reverse}
 use Prim.Native.Nat.{ℕ, _<_}
-use lib.ListN.{length}
+use lib.ListN.{length, drop}
 use Rattle.trellis.specs.Trellis.{Trellis, Path, top, allowed, ends}
 
 -- every input of the path is allowed at its level
 pub data Allowed (t : Trellis) : Path → Type 0 where
   start : Allowed t []
   step : {b : ℕ} {p : Path} → b < allowed t (length p) → Allowed t p → Allowed t (b ∷ p)
+
+-- the message of a path to the terminal: the tail dropped, the first input first
+abbrev pub messageOf : Trellis → Path → List ℕ
+messageOf t p = reverse (drop (t .tail) p)
 
 pub record Lawful (t : Trellis) : Type 0 where
   -- the tail brings every path to state 0
