@@ -9,3 +9,5 @@ pub mod Sorted
 pub mod Least
 pub mod Lexicographic
 pub mod Words
+pub mod Decides
+pub mod Images

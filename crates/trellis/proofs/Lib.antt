@@ -1,3 +1,8 @@
+pub mod Parts
+pub mod SheetTests
+pub mod SheetSound
+pub mod Honest
+pub mod SheetComplete
 pub mod Paths
 pub mod Cost
 pub mod Recurrence

@@ -1,0 +1,59 @@
+-- The honest sheet: exactly the reachable nodes of cost at most M, with their costs, strictly sorted by level, then state; the
+-- terminal is among them where M is its cost. That it carries its claim is in SheetComplete. Assumes nothing.
+use mathlib.Core.Path.{refl, subst, sym}
+use mathlib.Core.List.{List, map, Memᴰ·cast}
+use mathlib.Core.Bool.{Bool}
+use Prim.Native.Nat.{ℕ, _≤_}
+use lib.Dec.{leb, leb→le, le→leb}
+use Rattle.lists.specs.Lists.{_∈_, keep, sort}
+use Rattle.lists.proofs.Membership.{Every, map-in, map-out, keep-in, keep-out}
+use Rattle.lists.proofs.Unique.{keep-unique}
+use Rattle.lists.proofs.Sorted.{Sorted, sort-in, sort-out, sort-sorted}
+use Rattle.lists.proofs.Images.{keep-map, sort-map, map-sorted}
+use Rattle.trellis.specs.Trellis.{Trellis, Node, reachable, cost}
+use Rattle.trellis.specs.Verdict.{Entry, priced, earlier}
+use Rattle.trellis.specs.Sheet.{honest}
+use Rattle.trellis.proofs.Paths.{reachable-in, reachable-out, reachable-unique}
+use Rattle.trellis.proofs.Cost.{cost-is, cost-computed}
+use Rattle.trellis.proofs.Order.{earlier-order, entry-path}
+use Rattle.trellis.proofs.Ranked.{Priced}
+
+-- 'An honest sheet lists exactly the reachable nodes of cost at most M, terminal included, with their costs'
+pub record Honest (t : Trellis) (m : ℕ) (sheet : List Entry) : Type 0 where
+  pub full : (e : Entry) → Priced t e → e .cost ≤ m → e ∈ sheet
+  pub priced : Every (Priced t) sheet
+
+-- the sheet's order: by level, then state, whatever the costs
+abbrev pub lower : Entry → Entry → Bool
+lower x y = earlier (x .node) (y .node)
+
+module _ (t : Trellis) (m : ℕ) where
+  -- the entries, before they are sorted
+  abbrev listing : List Entry
+  listing = keep (λ e. leb (e .cost) m) (map (priced t) (reachable t))
+
+  pub honest-in : {e : Entry} → Priced t e → e .cost ≤ m → e ∈ honest t m
+  unfolding honest
+  honest-in {e} h low =
+      sort-in lower listing e
+      (keep-in (λ e. leb (e .cost) m) (Memᴰ·cast (entry-path (cost-computed h) refl) (map-in (priced t) (reachable-in (h .there)))) (le→leb (e .cost) m low))
+
+  pub honest-out : {e : Entry} → e ∈ honest t m → Priced t e × (e .cost ≤ m)
+  unfolding honest
+  honest-out {e} k =
+      let r = keep-out (λ e. leb (e .cost) m) (map (priced t) (reachable t)) (sort-out lower listing e k) in
+      let s = map-out (priced t) (reachable t) (r .member) in
+      (subst (Priced t) (sym (s .equal)) (cost-is (reachable-out t (s .member) .there)), leb→le (e .cost) m (r .passes))
+
+  pub honest-is : Honest t m (honest t m)
+  honest-is = record { full = (λ e h low. honest-in h low); priced = (λ e k. honest-out k .0) }
+
+  -- 'They rise strictly by level, then state'
+  pub honest-sorted : Sorted lower (honest t m)
+  unfolding honest
+  honest-sorted =
+      rw (keep-map (priced t) (λ e. leb (e .cost) m) (reachable t), sort-map (priced t) lower)
+      (map-sorted (priced t) lower (sort earlier cheap) (sort-sorted earlier earlier-order cheap (keep-unique (λ x. leb (cost t x) m) (reachable t) (reachable-unique t))))
+    where
+      cheap : List Node
+      cheap = keep (λ x. leb (cost t x) m) (reachable t)
