@@ -4,24 +4,32 @@ use mathlib.Core.Path.{refl, subst, sym}
 use mathlib.Core.List.{List, map, Memᴰ·cast}
 use mathlib.Core.Bool.{Bool}
 use Prim.Native.Nat.{ℕ, _≤_}
+use native.Mathlib.Omega.{arith}
 use lib.Dec.{leb, leb→le, le→leb}
 use Rattle.lists.specs.Lists.{_∈_, keep, sort}
 use Rattle.lists.proofs.Membership.{Every, map-in, map-out, keep-in, keep-out}
 use Rattle.lists.proofs.Unique.{keep-unique}
 use Rattle.lists.proofs.Sorted.{Sorted, sort-in, sort-out, sort-sorted}
 use Rattle.lists.proofs.Images.{keep-map, sort-map, map-sorted}
-use Rattle.trellis.specs.Trellis.{Trellis, Node, reachable, cost}
-use Rattle.trellis.specs.Verdict.{Entry, priced, earlier}
+use Rattle.trellis.specs.Trellis.{Trellis, Node, terminal, reachable, cost}
+use Rattle.trellis.specs.Verdict.{Entry, priced, earlier, leastMetric}
 use Rattle.trellis.specs.Sheet.{honest}
+use Rattle.trellis.specs.Lawful.{Lawful}
 use Rattle.trellis.proofs.Paths.{reachable-in, reachable-out, reachable-unique}
 use Rattle.trellis.proofs.Cost.{cost-is, cost-computed}
 use Rattle.trellis.proofs.Order.{earlier-order, entry-path}
 use Rattle.trellis.proofs.Ranked.{Priced}
+use Rattle.trellis.proofs.Messages.{leastMetric-cost}
+
+-- an entry that an honest sheet has: a reachable node with its cost, at most M
+pub record Due (t : Trellis) (m : ℕ) (e : Entry) : Type 0 where
+  pub priced : Priced t e
+  pub within : e .cost ≤ m
 
 -- 'An honest sheet lists exactly the reachable nodes of cost at most M, terminal included, with their costs'
 pub record Honest (t : Trellis) (m : ℕ) (sheet : List Entry) : Type 0 where
-  pub full : (e : Entry) → Priced t e → e .cost ≤ m → e ∈ sheet
-  pub priced : Every (Priced t) sheet
+  pub all : (e : Entry) → Due t m e → e ∈ sheet
+  pub only : Every (Due t m) sheet
 
 -- the sheet's order: by level, then state, whatever the costs
 abbrev pub lower : Entry → Entry → Bool
@@ -32,21 +40,21 @@ module _ (t : Trellis) (m : ℕ) where
   abbrev listing : List Entry
   listing = keep (λ e. leb (e .cost) m) (map (priced t) (reachable t))
 
-  pub honest-in : {e : Entry} → Priced t e → e .cost ≤ m → e ∈ honest t m
+  pub honest-in : {e : Entry} → Due t m e → e ∈ honest t m
   unfolding honest
-  honest-in {e} h low =
+  honest-in {e} h =
       sort-in lower listing e
-      (keep-in (λ e. leb (e .cost) m) (Memᴰ·cast (entry-path (cost-computed h) refl) (map-in (priced t) (reachable-in (h .there)))) (le→leb (e .cost) m low))
+      (keep-in (λ e. leb (e .cost) m) (Memᴰ·cast (entry-path (cost-computed (h .priced)) refl) (map-in (priced t) (reachable-in (h .priced .there)))) (le→leb (e .cost) m (h .within)))
 
-  pub honest-out : {e : Entry} → e ∈ honest t m → Priced t e × (e .cost ≤ m)
+  pub honest-out : {e : Entry} → e ∈ honest t m → Due t m e
   unfolding honest
   honest-out {e} k =
       let r = keep-out (λ e. leb (e .cost) m) (map (priced t) (reachable t)) (sort-out lower listing e k) in
       let s = map-out (priced t) (reachable t) (r .member) in
-      (subst (Priced t) (sym (s .equal)) (cost-is (reachable-out t (s .member) .there)), leb→le (e .cost) m (r .passes))
+      record { priced = subst (Priced t) (sym (s .equal)) (cost-is (reachable-out t (s .member) .there)); within = leb→le (e .cost) m (r .passes) }
 
   pub honest-is : Honest t m (honest t m)
-  honest-is = record { full = (λ e h low. honest-in h low); priced = (λ e k. honest-out k .0) }
+  honest-is = record { all = (λ e h. honest-in h); only = (λ e k. honest-out k) }
 
   -- 'They rise strictly by level, then state'
   pub honest-sorted : Sorted lower (honest t m)
@@ -57,3 +65,7 @@ module _ (t : Trellis) (m : ℕ) where
     where
       cheap : List Node
       cheap = keep (λ x. leb (cost t x) m) (reachable t)
+
+-- 'terminal included'
+pub honest-terminal : {t : Trellis} → Lawful t → record { cost = leastMetric t; node = terminal t } ∈ honest t (leastMetric t)
+honest-terminal {t} law = honest-in t (leastMetric t) (record { priced = leastMetric-cost law; within = omega arith })

@@ -2,21 +2,25 @@
 -- The idea: a rival to an early part of the message's path, put in its place, would be a rival to the whole path; so every early
 -- part is the only one of its metric to its node. Assumes nothing.
 use mathlib.Core.Path.{_≡_, refl, sym, ap, _∙_, subst}
-use mathlib.Core.List.{List, [], _∷_, List·Memᴰ·head, List·Memᴰ·tail, List·Memᴰ·eq-of-singleton}
+use mathlib.Core.List.{List, [], _∷_, map, List·Memᴰ·head, List·Memᴰ·tail, List·Memᴰ·eq-of-singleton}
+use mathlib.Core.Bool.{true}
 use Prim.Native.Nat.{ℕ, _+_, _≤_, _<_}
 use native.Mathlib.Decide.{decLt}
 use native.Mathlib.Omega.{arith}
+use lib.Dec.{T}
 use Rattle.lists.specs.Lists.{_∈_}
-use Rattle.trellis.specs.Trellis.{Trellis, Path, Node, node, ends, along, metric, endNode, cost}
-use Rattle.trellis.specs.Verdict.{Entry, entry, priced}
-use Rattle.trellis.specs.Sheet.{onto}
-use Rattle.trellis.specs.Lawful.{Allowed, start, step}
-use Rattle.trellis.proofs.Paths.{Ends, ends-here}
+use Rattle.lists.proofs.Tests.{true-out}
+use Rattle.trellis.specs.Trellis.{Trellis, Path, Node, node, ends, along, metric, endNode, terminal, cost}
+use Rattle.trellis.specs.Verdict.{Entry, entry, priced, pathOf, leastMetric, leastMessages}
+use Rattle.trellis.specs.Sheet.{onto, carries, honest}
+use Rattle.trellis.specs.Lawful.{Allowed, start, step, Lawful}
+use Rattle.trellis.proofs.Paths.{Ends, ends-here, node-path}
 use Rattle.trellis.proofs.Cost.{Cost, cost-is, cost-origin}
 use Rattle.trellis.proofs.Recurrence.{Enters, extend, metric-extend, cost-enters}
 use Rattle.trellis.proofs.Ranked.{Priced}
-use Rattle.trellis.proofs.Honest.{Honest}
-use Rattle.trellis.proofs.SheetTests.{arrival, AllBranches, Onward, Dearer, Clear, Carries}
+use Rattle.trellis.proofs.Messages.{Least, leastMessages-out, pathOf-ends, leastMetric-cost, leastMessages-paths}
+use Rattle.trellis.proofs.Honest.{Honest, honest-is}
+use Rattle.trellis.proofs.SheetTests.{arrival, AllBranches, Onward, Dearer, Clear, Carries, carries-test}
 use Rattle.trellis.proofs.Parts.{parts, parts-metric, parts-allowed}
 
 -- ---- rivals
@@ -62,14 +66,14 @@ module _ {t : Trellis} {own : Path} (al : Allowed t own) (alone : (q : Path) →
       go q h (no n) = omega arith
       go q h (yes n) = let e : metric t q ≡ metric t p = ap (metric t) (alone-part p q part h (omega arith)) in omega arith
 
-  module _ {sheet : List Entry} (honest : Honest t (metric t own) sheet) where
+  module _ {sheet : List Entry} (own-sheet : Honest t (metric t own) sheet) where
     -- C
     listed : (p : Path) → p ∈ parts own → arrival t p ∈ sheet
-    listed p part = honest .full (arrival t p) (cost-part p part) (parts-metric t own part)
+    listed p part = own-sheet .all (arrival t p) (record { priced = cost-part p part; within = parts-metric t own part })
 
     -- D: a branch as cheap as the path's own would make a rival of its last part
     dearer : (a : ℕ) (p : Path) → (a ∷ p) ∈ parts own → AllBranches t sheet (Dearer t a p)
-    dearer a p part e here b u enters apart = go (honest .priced e here) (decLt (metric t (a ∷ p)) (onto t e b .cost))
+    dearer a p part e here b u enters apart = go (own-sheet .only e here .priced) (decLt (metric t (a ∷ p)) (onto t e b .cost))
       where
         go : Priced t e → Dec (metric t (a ∷ p) < onto t e b .cost) → metric t (a ∷ p) < onto t e b .cost
         go c (yes h) = h
@@ -89,9 +93,35 @@ module _ {t : Trellis} {own : Path} (al : Allowed t own) (alone : (q : Path) →
     onward e here b u h =
         let x : Node = onto t e b .node in
         let enters : Enters t x (e .node) b = record { fits = u; leads = refl } in
-        let c : Cost t x (cost t x) = cost-is (extend (honest .priced e here .there) enters) in
-        let low : cost t x ≤ onto t e b .cost = cost-enters c (honest .priced e here) enters in
-        record { cost = cost t x; here = honest .full (priced t x) c (omega arith); small = low }
+        let c : Cost t x (cost t x) = cost-is (extend (own-sheet .only e here .priced .there) enters) in
+        let low : cost t x ≤ onto t e b .cost = cost-enters c (own-sheet .only e here .priced) enters in
+        record { cost = cost t x; here = own-sheet .all (priced t x) (record { priced = c; within = omega arith }); small = low }
 
     pub honest-carries : Carries t (metric t own) sheet own
-    honest-carries = record { begun = honest .full (entry 0 0 0) (cost-origin t) (omega arith); onward = onward; listed = listed; paid = refl; clear = clear }
+    honest-carries = record { begun = own-sheet .all (entry 0 0 0) (record { priced = cost-origin t; within = omega arith }); onward = onward; listed = listed; paid = refl; clear = clear }
+
+-- ---- messages
+
+module _ {t : Trellis} (law : Lawful t) {w : List ℕ} (one : leastMessages t ≡ w ∷ []) where
+  -- the only least message
+  least-one : Least t w
+  least-one = leastMessages-out t (subst (λ (l : List (List ℕ)). w ∈ l) (sym one) (List·Memᴰ·head refl))
+
+  there : Ends t (terminal t) (pathOf t w)
+  there = pathOf-ends law (least-one .member)
+
+  -- another path to the terminal that costs no more would be a least message's
+  alone : (q : Path) → Ends t (endNode t (pathOf t w)) q → metric t q ≤ metric t (pathOf t w) → q ≡ pathOf t w
+  alone q h low =
+      let at : Ends t (terminal t) q = subst (λ (x : Node). Ends t x q) (node-path (there .level) (there .state)) h in
+      let paid : metric t q ≡ leastMetric t = omega (arith, leastMetric-cost law .least q at, least-one .paid) in
+      let r = leastMessages-paths law .full q at paid in
+      List·Memᴰ·eq-of-singleton (subst (λ (l : List (List ℕ)). q ∈ map (pathOf t) l) one r)
+
+  -- for the decoder that writes a sheet: the check accepts what it writes
+  pub sheet-complete : carries t (leastMetric t) (honest t (leastMetric t)) (pathOf t w) ≡ true
+  sheet-complete =
+      let own : Path = pathOf t w in
+      true-out (carries t (leastMetric t) (honest t (leastMetric t)) own)
+      (subst (λ (m : ℕ). T (carries t m (honest t m) own)) (least-one .paid)
+      (carries-test t (metric t own) (honest t (metric t own)) own .into (honest-carries (there .allowed) alone (honest-is t (metric t own)))))

@@ -2,21 +2,26 @@
 -- The idea: by A and B every path within the metric ends at a listed node, at a cost no higher than its metric; so a rival that
 -- joins the message's path would join it by a branch from an entry, and D makes each of those too dear.
 -- Entries need not be reachable, sorted or unique. That honest sheets are accepted is in SheetComplete. Assumes nothing.
-use mathlib.Core.Path.{_≡_, refl, ap₂}
-use mathlib.Core.List.{List, [], _∷_}
+use mathlib.Core.Path.{_≡_, refl, sym, ap, ap₂, _∙_, subst}
+use mathlib.Core.List.{List, [], _∷_, List·Memᴰ·head, List·Memᴰ·not-nil}
+use mathlib.Core.Bool.{true}
 use Prim.Native.Nat.{ℕ, _+_, _≤_, _<_}
 use native.Mathlib.Nat.{suc-inj}
-use native.Mathlib.Decide.{ℕ-discrete}
+use native.Mathlib.Decide.{ℕ-discrete, decLt}
 use native.Mathlib.Omega.{arith}
 use lib.ListN.{length}
 use Rattle.lists.specs.Lists.{_∈_}
-use Rattle.trellis.specs.Trellis.{Trellis, Path, node, ends, along, metric, endNode}
-use Rattle.trellis.specs.Verdict.{Entry}
-use Rattle.trellis.specs.Sheet.{onto}
-use Rattle.trellis.specs.Lawful.{Allowed, start, step}
+use Rattle.lists.proofs.Tests.{true-in}
+use Rattle.lists.proofs.Membership.{every-cons}
+use Rattle.trellis.specs.Trellis.{Trellis, Path, Node, node, terminal, ends, along, metric, endNode}
+use Rattle.trellis.specs.Verdict.{Entry, messages, pathOf, leastMetric, leastMessages}
+use Rattle.trellis.specs.Sheet.{onto, carries}
+use Rattle.trellis.specs.Lawful.{Allowed, start, step, Lawful}
 use Rattle.trellis.proofs.Paths.{Ends, node-path}
+use Rattle.trellis.proofs.Cost.{Cost, LeastPaths}
+use Rattle.trellis.proofs.Messages.{messageOf-pathOf, pathOf-ends, leastMetric-is, leastMessages-one}
 use Rattle.trellis.proofs.Parts.{parts, parts-whole, parts-earlier, parts-metric}
-use Rattle.trellis.proofs.SheetTests.{Listed, Carries}
+use Rattle.trellis.proofs.SheetTests.{Listed, Carries, carries-test}
 
 -- ---- paths
 
@@ -59,3 +64,38 @@ module _ (t : Trellis) (m : ℕ) (sheet : List Entry) (own : Path) (ok : Carries
   -- no other path to the same node costs as little
   pub sheet-sole : {q : Path} → Ends t (endNode t own) q → metric t q ≤ m → q ≡ own
   sheet-sole q h = sole own (parts-whole own) (q .allowed) (q .level) (q .state) (omega (arith, ok .paid))
+
+-- ---- messages
+
+-- the message is the only one of least metric, and m is that metric
+pub record Alone (t : Trellis) (m : ℕ) (w : List ℕ) : Type 0 where
+  pub metric : leastMetric t ≡ m
+  pub message : leastMessages t ≡ w ∷ []
+
+-- for the check: who wrote the sheet does not matter
+pub sheet-sound : {t : Trellis} → Lawful t → {m : ℕ} (sheet : List Entry) {w : List ℕ} → w ∈ messages t → carries t m sheet (pathOf t w) ≡ true → Alone t m w
+sheet-sound {t} law {m} sheet {w} member accepted = record { metric = leastMetric-is law least; message = leastMessages-one law least paths ∙ ap (λ (v : List ℕ). v ∷ []) (messageOf-pathOf t w) }
+  where
+    ok : Carries t m sheet (pathOf t w)
+    ok = carries-test t m sheet (pathOf t w) .out (true-in (carries t m sheet (pathOf t w)) accepted)
+
+    there : Ends t (terminal t) (pathOf t w)
+    there = pathOf-ends law member
+
+    sole-there : (q : Path) → Ends t (terminal t) q → metric t q ≤ m → q ≡ pathOf t w
+    sole-there q at h = sheet-sole t m sheet (pathOf t w) ok (subst (λ (x : Node). Ends t x q) (node-path (sym (there .level)) (sym (there .state))) at) h
+
+    least : Cost t (terminal t) m
+    least = record { path = pathOf t w; there = there; paid = ok .paid; least = (λ q at. low q at (decLt (metric t q) m)) }
+      where
+        low : (q : Path) → Ends t (terminal t) q → Dec (metric t q < m) → m ≤ metric t q
+        low q at (no n) = omega arith
+        low q at (yes n) = let e : metric t q ≡ metric t (pathOf t w) = ap (metric t) (sole-there q at (omega arith)) in omega (arith, ok .paid)
+
+    paths : LeastPaths t (terminal t) m (pathOf t w ∷ [])
+    paths = record {
+      once = (λ k. List·Memᴰ·not-nil k, tt);
+      there = every-cons (Ends t (terminal t)) there (λ q k. absurd (List·Memᴰ·not-nil k));
+      paid = every-cons (λ q. metric t q ≡ m) (ok .paid) (λ q k. absurd (List·Memᴰ·not-nil k));
+      full = (λ q at e. List·Memᴰ·head (sole-there q at (omega arith)));
+    }
