@@ -1,3 +1,4 @@
+pub mod Bytes
 pub mod Closing
 pub mod Distance
 pub mod Weights

@@ -15,9 +15,13 @@ use Rattle.codes.specs.declared.table.Code.{Code}
 use Rattle.codes.specs.Limits.{mostMemory, longestMessage}
 use Rattle.codes.specs.Codes.{lawful, blockLength}
 use Rattle.codes.proofs.Rules.{lawful-out, Bounds}
-use Rattle.trellis.specs.Trellis.{Path, metric}
+use Rattle.trellis.specs.Trellis.{Path, Node, metric}
+use Rattle.trellis.specs.Verdict.{leastMetric}
+use Rattle.trellis.proofs.Cost.{Cost}
+use Rattle.trellis.proofs.Messages.{leastMetric-cost}
 use Rattle.blocks.specs.Symbols.{weight, view}
 use Rattle.blocks.specs.Blocks.{totalWeight, trellisOf, longestBlock, greatestWeight, greatestMetric}
+use Rattle.blocks.proofs.Closing.{trellis-lawful}
 use Rattle.blocks.proofs.Distance.{metric-total}
 
 -- the paper's numbers
@@ -45,8 +49,25 @@ block-short c l h k =
     let steps : l + c .memory ≤ longestMessage + mostMemory = omega (arith, b .memory-most) in
     mul-le-mul (b .outputs-most) steps
 
--- 'It is at least 0 and at most the sum of all weights, so at most 110,592.'
-pub metric-greatest : (c : Code) (l : ℕ) (symbols : List ℤ) → lawful c ≡ true → l ≤ longestMessage → c .outputs ≤ length (c .generators)
-    → length symbols ≡ blockLength c l → Every (SFits w8) symbols → (p : Path) → metric (trellisOf c l (view symbols)) p ≤ greatestMetric
-metric-greatest c l symbols h k full n fits p =
-    omega (arith, metric-total c l (view symbols) full p, view-total symbols fits, block-short c l h k)
+-- What has been tested before anything is measured: the code, L, and the block's length; that symbols are bytes and that a code has
+-- room for its generators the types say.
+pub record Tested (c : Code) (l : ℕ) (symbols : List ℤ) : Type 0 where
+  pub code : lawful c ≡ true
+  pub span : l ≤ longestMessage
+  pub size : length symbols ≡ blockLength c l
+  pub bytes : Every (SFits w8) symbols
+  pub full : c .outputs ≤ length (c .generators)
+
+module _ {c : Code} {l : ℕ} {symbols : List ℤ} (h : Tested c l symbols) where
+  -- 'It is at least 0 and at most the sum of all weights, so at most 110,592.'
+  pub metric-greatest : (p : Path) → metric (trellisOf c l (view symbols)) p ≤ greatestMetric
+  metric-greatest p =
+      omega (arith, metric-total c l (view symbols) (h .full) p, view-total symbols (h .bytes), h .size, block-short c l (h .code) (h .span))
+
+  -- for the numbers that the search keeps
+  pub cost-greatest : {x : Node} {k : ℕ} → Cost (trellisOf c l (view symbols)) x k → k ≤ greatestMetric
+  cost-greatest k = omega (arith, k .paid, metric-greatest (k .path))
+
+  -- for the metric that is handed back
+  pub leastMetric-greatest : leastMetric (trellisOf c l (view symbols)) ≤ greatestMetric
+  leastMetric-greatest = cost-greatest (leastMetric-cost (trellis-lawful c l (view symbols)))

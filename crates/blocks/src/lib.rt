@@ -1,1 +1,2 @@
-// What a code and a block make of the trellis: weights, hard bits, branch costs. Its functions come with the search.
+// What a code and a block make of the trellis: weights and hard bits of symbols, and, with the search, branch costs.
+pub mod symbols;
