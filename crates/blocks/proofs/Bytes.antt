@@ -18,6 +18,7 @@ use Rattle.blocks.specs.Symbols.{hardBit, weight}
 pub byte-back : (z : ℤ) → SFits w8 z → toZ w8 (ofZ w8 z) ≡ z
 byte-back z f = toZ-ofZ w8 z f
 
+-- for the cast to 32 bits
 pub wide-fits : (z : ℤ) → SFits w8 z → SFits w32 z
 wide-fits z f = sfits-widen tt f
 
@@ -34,6 +35,7 @@ pub record Below (z : ℤ) : Type 0 where
   pub size : natAbs (pos 0 -ℤ z) ≡ weight z
   pub hard : hardBit z ≡ 1
 
+-- for the branch taken below zero
 pub below-zero : (z : ℤ) → SFits w8 z → ltZ z (pos 0) ≡ true → Below z
 below-zero (pos n) f e = absurd (omega (arith, ltb-true n 0 e))
 below-zero (negsuc n) f e = record { fits = record { sfits = omega (arith, f .sfits) }; up = tt; size = omega arith; hard = refl }
@@ -44,6 +46,7 @@ pub record Level (z : ℤ) : Type 0 where
   pub size : natAbs z ≡ weight z
   pub hard : hardBit z ≡ 0
 
+-- for the other branch
 pub not-below : (z : ℤ) → ltZ z (pos 0) ≡ false → Level z
 not-below (pos n) e = record { up = tt; size = refl; hard = refl }
 not-below (negsuc n) e = absurd (true≢false e)

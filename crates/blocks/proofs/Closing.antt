@@ -28,7 +28,7 @@ module _ (c : Code) (l : ℕ) (block : List Seen) where
   abbrev t : Trellis
   t = trellisOf c l block
 
-  -- every input is a bit
+  -- for the register: every input is a bit
   pub input-bit : (level b : ℕ) → b < allowed t level → b ≤ 1
   unfolding allowed
   input-bit level b h = go (ltb level l) (ltb level (l + c .memory)) h
@@ -38,7 +38,7 @@ module _ (c : Code) (l : ℕ) (block : List Seen) where
       go false true h = omega arith
       go false false h = omega arith
 
-  -- in the tail it is 0
+  -- for the tail: there it is 0
   pub input-tail : (k b : ℕ) → b < allowed t (l + k) → b ≡ 0
   input-tail k b h = let e : allowed t (l + k) ≡ 1 = allowed-tail t (l + k) (omega arith) (allowed-top t (l + k) b h) in omega arith
 

@@ -20,7 +20,7 @@ use Rattle.blocks.specs.Blocks.{distance, totalWeight, branchCost, trell
 
 -- ---- distance
 
--- outputs one after the other, each part against its own symbols
+-- for branches one after the other: each part of the outputs against its own symbols
 pub distance-append : (xs ys : List ℕ) (block : List Seen) → distance (xs ++ ys) block ≡ distance xs block + distance ys (drop (length xs) block)
 unfolding distance
 distance-append [] ys block = omega arith
@@ -34,7 +34,7 @@ pub distance-at : (x : ℕ) (xs : List ℕ) (block : List Seen) (at : ℕ) (d : 
 unfolding distance
 distance-at x xs block at d h = rw (drop-cons block at d h, add-one)
 
--- 'at most the sum of all weights'
+-- for 'at most the sum of all weights'
 pub distance-total : (xs : List ℕ) (block : List Seen) → distance xs block ≤ totalWeight block
 unfolding distance totalWeight
 distance-total [] block = omega arith
@@ -79,7 +79,7 @@ module _ (c : Code) (l : ℕ) (block : List Seen) (full : c .outputs ≤ length 
       ap (distance rest) (next-symbols (length p) r) in
       omega (arith, metric-onward bits (b ∷ p), distance-append (branchOutputs (generatorsOf c) r) rest here)
 
-  -- so does a whole path
+  -- from the origin: a whole path costs the distance of its outputs from the block
   metric-bits : (bits : List ℕ) → metric t (reverse bits) ≡ distance (outputsFrom (generatorsOf c) (c .memory) 0 bits) block
   unfolding ends along
   metric-bits bits = metric-onward bits [] ∙ rw (zero-mul, zero-add)

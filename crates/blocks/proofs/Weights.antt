@@ -1,7 +1,7 @@
 -- How large weights, blocks and metrics are: a signed byte weighs at most 128, a block of a lawful code has at most 864 symbols,
 -- and no metric is above 110,592. What the widths of the program's numbers rest on. Assumes nothing.
 use mathlib.Core.Path.{_≡_, refl}
-use mathlib.Core.List.{List, [], _∷_, List·Memᴰ·head, List·Memᴰ·tail}
+use mathlib.Core.List.{List, [], _∷_}
 use mathlib.Core.Bool.{true}
 use Prim.Native.Nat.{ℕ, _+_, _*_, _≤_}
 use native.Mathlib.Nat.{mul-le-mul}
@@ -10,7 +10,7 @@ use lib.IntN.{ℤ, pos, negsuc}
 use lib.ListN.{length}
 use mir.Syntax.{w8}
 use mir.Val.{SFits}
-use Rattle.lists.proofs.Membership.{Every}
+use Rattle.lists.proofs.Membership.{here, further, Every}
 use Rattle.codes.specs.declared.table.Code.{Code}
 use Rattle.codes.specs.Limits.{mostMemory, longestMessage}
 use Rattle.codes.specs.Codes.{lawful, blockLength}
@@ -31,16 +31,16 @@ longest-block = refl
 pub greatest-metric : greatestMetric ≡ 110592
 greatest-metric = refl
 
--- a symbol that a byte holds
+-- for a symbol that a byte holds
 pub weight-byte : (z : ℤ) → SFits w8 z → weight z ≤ greatestWeight
 weight-byte (pos n) h = omega (arith, h .sfits)
 weight-byte (negsuc n) h = omega (arith, h .sfits)
 
--- 'the sum of all weights'
+-- for 'the sum of all weights'
 pub view-total : (symbols : List ℤ) → Every (SFits w8) symbols → totalWeight (view symbols) ≤ greatestWeight * length symbols
 unfolding view totalWeight
 view-total [] h = omega arith
-view-total (z ∷ symbols) h = omega (arith, weight-byte z (h z (List·Memᴰ·head refl)), view-total symbols (λ a m. h a (List·Memᴰ·tail m)))
+view-total (z ∷ symbols) h = omega (arith, weight-byte z (h z (here refl)), view-total symbols (λ a m. h a (further m)))
 
 -- 'A block has N = n(L+m) symbols, at most 864.'
 pub block-short : (c : Code) (l : ℕ) → lawful c ≡ true → l ≤ longestMessage → blockLength c l ≤ longestBlock

@@ -14,17 +14,18 @@ pub record Decides (test : Bool) (P : Type 0) : Type 0 where
   pub out : T test → P
   pub into : P → T test
 
--- the same statement, said otherwise
+-- for a statement that reads better: the same, said otherwise
 pub said : {a : Bool} {P Q : Type 0} → Decides a P → (P → Q) → (Q → P) → Decides a Q
 said d f g = record { out = (λ h. f (d .out h)); into = (λ q. d .into (g q)) }
 
+-- for 'and': one statement and the other
 pub both : {a b : Bool} {P Q : Type 0} → Decides a P → Decides b Q → Decides (a && b) (P × Q)
 both {a} {b} d e = record {
   out = (λ h. let r = and-out a b h in (d .out (r .0), e .out (r .1)));
   into = (λ h. and-in a b (d .into (h .0)) (e .into (h .1)));
 }
 
--- where the first statement fails, the second
+-- for 'or': where the first statement fails, the second
 pub either : {a b : Bool} {P Q : Type 0} → Decides a P → Decides b Q → Decides (a || b) (¬ P → Q)
 either {a} {b} {P} {Q} d e = record { out = go a (d .out); into = come a (d .into) }
   where
@@ -36,7 +37,7 @@ either {a} {b} {P} {Q} d e = record { out = go a (d .out); into = come a (d .int
     come true f h = tt
     come false f h = e .into (h (λ p. f p))
 
--- where the first statement holds and the second fails, the third
+-- for 'not .. or .. or ..': where the first statement holds and the second fails, the third
 pub whenever : {a b c : Bool} {P Q R : Type 0} → Decides a P → Decides b Q → Decides c R → Decides (not a || b || c) (P → ¬ Q → R)
 whenever {a} {b} {c} {P} {Q} {R} d e f = record { out = go a b (d .into) (e .out); into = come a b (d .out) (e .into) }
   where
@@ -53,18 +54,18 @@ whenever {a} {b} {c} {P} {Q} {R} d e f = record { out = go a b (d .into) (e .out
     come false false o i h = tt
 
 module _ {A : Type 0} {P : A → Type 0} {p : A → Bool} (d : (a : A) → Decides (p a) (P a)) where
-  -- a statement of every member
+  -- for all: a statement of every member
   pub each : (l : List A) → Decides (all p l) (Every P l)
   each l = record { out = (λ h a m. d a .out (all-out p l h a m)); into = (λ h. all-in p l (λ a m. d a .into (h a m))) }
 
-  -- a statement of some member
+  -- for any: a statement of some member
   pub some : (l : List A) → Decides (any p l) ((a : A) × (a ∈ l) × P a)
   some l = record {
     out = (λ h. let r = any-out p l h in (r .which, r .member, d (r .which) .out (r .passes)));
     into = (λ r. any-in p (r .1) (d (r .0) .into (r .2)));
   }
 
--- ---- numbers
+-- ---- the tests of numbers
 
 pub equal : (a b : ℕ) → Decides (eqb a b) (a ≡ b)
 equal a b = record { out = eqb→eq a b; into = (λ e. subst (λ (x : ℕ). T (eqb a x)) e (eqb-refl a)) }

@@ -1,7 +1,7 @@
 -- The starred cases of document 01, 'Blocks to try': what is asked, what the definitions give, the one list, and the one claim, which
 -- holds by computation. Code 7, 5 throughout. Assumes nothing.
 use mathlib.Core.Path.{_≡_, refl}
-use mathlib.Core.List.{List, [], _∷_, _++_, map, flatMap}
+use mathlib.Core.List.{List, [], _∷_, map, flatMap}
 use Prim.Native.Nat.{ℕ}
 use lib.Count.{ones, onesIn}
 use lib.ListN.{replicate}

@@ -1,13 +1,13 @@
 -- The honest sheet: exactly the reachable nodes of cost at most M, with their costs, strictly sorted by level, then state; the
 -- terminal is among them where M is its cost. That it carries its claim is in SheetComplete. Assumes nothing.
 use mathlib.Core.Path.{refl, subst, sym}
-use mathlib.Core.List.{List, map, Memᴰ·cast}
+use mathlib.Core.List.{List, map}
 use mathlib.Core.Bool.{Bool}
 use Prim.Native.Nat.{ℕ, _≤_}
 use native.Mathlib.Omega.{arith}
 use lib.Dec.{leb, leb→le, le→leb}
 use Rattle.lists.specs.Lists.{_∈_, keep, sort}
-use Rattle.lists.proofs.Membership.{Every, map-in, map-out, keep-in, keep-out}
+use Rattle.lists.proofs.Membership.{member-cast, Every, map-in, map-out, keep-in, keep-out}
 use Rattle.lists.proofs.Unique.{keep-unique}
 use Rattle.lists.proofs.Sorted.{Sorted, sort-in, sort-out, sort-sorted}
 use Rattle.lists.proofs.Images.{keep-map, sort-map, map-sorted}
@@ -40,12 +40,14 @@ module _ (t : Trellis) (m : ℕ) where
   abbrev listing : List Entry
   listing = keep (λ e. leb (e .cost) m) (map (priced t) (reachable t))
 
+  -- for completeness: nothing is left out
   pub honest-in : {e : Entry} → Due t m e → e ∈ honest t m
   unfolding honest
   honest-in {e} h =
       sort-in lower listing e
-      (keep-in (λ e. leb (e .cost) m) (Memᴰ·cast (entry-path (cost-computed (h .priced)) refl) (map-in (priced t) (reachable-in (h .priced .there)))) (le→leb (e .cost) m (h .within)))
+      (keep-in (λ e. leb (e .cost) m) (member-cast (entry-path (cost-computed (h .priced)) refl) (map-in (priced t) (reachable-in (h .priced .there)))) (le→leb (e .cost) m (h .within)))
 
+  -- for completeness: nothing else is in
   pub honest-out : {e : Entry} → e ∈ honest t m → Due t m e
   unfolding honest
   honest-out {e} k =
@@ -53,10 +55,11 @@ module _ (t : Trellis) (m : ℕ) where
       let s = map-out (priced t) (reachable t) (r .member) in
       record { priced = subst (Priced t) (sym (s .equal)) (cost-is (reachable-out t (s .member) .there)); within = leb→le (e .cost) m (r .passes) }
 
+  -- both: the computed sheet is an honest one
   pub honest-is : Honest t m (honest t m)
   honest-is = record { all = (λ e h. honest-in h); only = (λ e k. honest-out k) }
 
-  -- 'They rise strictly by level, then state'
+  -- for the sheet's form: 'They rise strictly by level, then state'
   pub honest-sorted : Sorted lower (honest t m)
   unfolding honest
   honest-sorted =
@@ -66,6 +69,6 @@ module _ (t : Trellis) (m : ℕ) where
       cheap : List Node
       cheap = keep (λ x. leb (cost t x) m) (reachable t)
 
--- 'terminal included'
+-- for the sheet's last entry: 'terminal included'
 pub honest-terminal : {t : Trellis} → Lawful t → record { cost = leastMetric t; node = terminal t } ∈ honest t (leastMetric t)
 honest-terminal {t} law = honest-in t (leastMetric t) (record { priced = leastMetric-cost law; within = omega arith })

@@ -2,13 +2,14 @@
 -- The idea: a rival to an early part of the message's path, put in its place, would be a rival to the whole path; so every early
 -- part is the only one of its metric to its node. Assumes nothing.
 use mathlib.Core.Path.{_≡_, refl, sym, ap, _∙_, subst}
-use mathlib.Core.List.{List, [], _∷_, map, List·Memᴰ·head, List·Memᴰ·tail, List·Memᴰ·eq-of-singleton}
+use mathlib.Core.List.{List, [], _∷_, map}
 use mathlib.Core.Bool.{true}
 use Prim.Native.Nat.{ℕ, _+_, _≤_, _<_}
 use native.Mathlib.Decide.{decLt}
 use native.Mathlib.Omega.{arith}
 use lib.Dec.{T}
 use Rattle.lists.specs.Lists.{_∈_}
+use Rattle.lists.proofs.Membership.{here, further, singleton-out}
 use Rattle.lists.proofs.Tests.{true-out}
 use Rattle.trellis.specs.Trellis.{Trellis, Path, Node, node, ends, along, metric, endNode, terminal, cost}
 use Rattle.trellis.specs.Verdict.{Entry, entry, priced, pathOf, leastMetric, leastMessages}
@@ -38,9 +39,9 @@ module _ {t : Trellis} {p q : Path} (rival : Ends t (endNode t p) q) where
 
   exchange : {own : Path} → Allowed t own → p ∈ parts own → Exchanged t own p q
   unfolding ends along
-  exchange start m = exchange-whole [] (List·Memᴰ·eq-of-singleton m)
-  exchange (step {b = a} {p = own} u al) (List·Memᴰ·head e) = exchange-whole (a ∷ own) e
-  exchange (step {b = a} {p = own} u al) (List·Memᴰ·tail m) =
+  exchange start m = exchange-whole [] (singleton-out m)
+  exchange (step {b = a} {p = own} u al) (here e) = exchange-whole (a ∷ own) e
+  exchange (step {b = a} {p = own} u al) (further m) =
       let x : Exchanged t own p q = exchange al m in
       record {
         path = a ∷ x .path;
@@ -73,7 +74,7 @@ module _ {t : Trellis} {own : Path} (al : Allowed t own) (alone : (q : Path) →
 
     -- D: a branch as cheap as the path's own would make a rival of its last part
     dearer : (a : ℕ) (p : Path) → (a ∷ p) ∈ parts own → AllBranches t sheet (Dearer t a p)
-    dearer a p part e here b u enters apart = go (own-sheet .only e here .priced) (decLt (metric t (a ∷ p)) (onto t e b .cost))
+    dearer a p part e member b u enters apart = go (own-sheet .only e member .priced) (decLt (metric t (a ∷ p)) (onto t e b .cost))
       where
         go : Priced t e → Dec (metric t (a ∷ p) < onto t e b .cost) → metric t (a ∷ p) < onto t e b .cost
         go c (yes h) = h
@@ -90,11 +91,11 @@ module _ {t : Trellis} {own : Path} (al : Allowed t own) (alone : (q : Path) →
 
     -- B: the branch goes on from a least path, so the node that it enters costs no more
     onward : AllBranches t sheet (Onward t (metric t own) sheet)
-    onward e here b u h =
+    onward e member b u h =
         let x : Node = onto t e b .node in
         let enters : Enters t x (e .node) b = record { fits = u; leads = refl } in
-        let c : Cost t x (cost t x) = cost-is (extend (own-sheet .only e here .priced .there) enters) in
-        let low : cost t x ≤ onto t e b .cost = cost-enters c (own-sheet .only e here .priced) enters in
+        let c : Cost t x (cost t x) = cost-is (extend (own-sheet .only e member .priced .there) enters) in
+        let low : cost t x ≤ onto t e b .cost = cost-enters c (own-sheet .only e member .priced) enters in
         record { cost = cost t x; here = own-sheet .all (priced t x) (record { priced = c; within = omega arith }); small = low }
 
     pub honest-carries : Carries t (metric t own) sheet own
@@ -105,7 +106,7 @@ module _ {t : Trellis} {own : Path} (al : Allowed t own) (alone : (q : Path) →
 module _ {t : Trellis} (law : Lawful t) {w : List ℕ} (one : leastMessages t ≡ w ∷ []) where
   -- the only least message
   least-one : Least t w
-  least-one = leastMessages-out t (subst (λ (l : List (List ℕ)). w ∈ l) (sym one) (List·Memᴰ·head refl))
+  least-one = leastMessages-out t (subst (λ (l : List (List ℕ)). w ∈ l) (sym one) (here refl))
 
   there : Ends t (terminal t) (pathOf t w)
   there = pathOf-ends law (least-one .member)
@@ -116,7 +117,7 @@ module _ {t : Trellis} (law : Lawful t) {w : List ℕ} (one : leastMessages t �
       let at : Ends t (terminal t) q = subst (λ (x : Node). Ends t x q) (node-path (there .level) (there .state)) h in
       let paid : metric t q ≡ leastMetric t = omega (arith, leastMetric-cost law .least q at, least-one .paid) in
       let r = leastMessages-paths law .full q at paid in
-      List·Memᴰ·eq-of-singleton (subst (λ (l : List (List ℕ)). q ∈ map (pathOf t) l) one r)
+      singleton-out (subst (λ (l : List (List ℕ)). q ∈ map (pathOf t) l) one r)
 
   -- for the decoder that writes a sheet: the check accepts what it writes
   pub sheet-complete : carries t (leastMetric t) (honest t (leastMetric t)) (pathOf t w) ≡ true

@@ -3,7 +3,7 @@
 -- joins the message's path would join it by a branch from an entry, and D makes each of those too dear.
 -- Entries need not be reachable, sorted or unique. That honest sheets are accepted is in SheetComplete. Assumes nothing.
 use mathlib.Core.Path.{_≡_, refl, sym, ap, ap₂, _∙_, subst}
-use mathlib.Core.List.{List, [], _∷_, List·Memᴰ·head, List·Memᴰ·not-nil}
+use mathlib.Core.List.{List, [], _∷_}
 use mathlib.Core.Bool.{true}
 use Prim.Native.Nat.{ℕ, _+_, _≤_, _<_}
 use native.Mathlib.Nat.{suc-inj}
@@ -12,7 +12,7 @@ use native.Mathlib.Omega.{arith}
 use lib.ListN.{length}
 use Rattle.lists.specs.Lists.{_∈_}
 use Rattle.lists.proofs.Tests.{true-in}
-use Rattle.lists.proofs.Membership.{every-cons}
+use Rattle.lists.proofs.Membership.{here, nil-out, every-cons}
 use Rattle.trellis.specs.Trellis.{Trellis, Path, Node, node, terminal, ends, along, metric, endNode}
 use Rattle.trellis.specs.Verdict.{Entry, messages, pathOf, leastMetric, leastMessages}
 use Rattle.trellis.specs.Sheet.{onto, carries}
@@ -74,7 +74,10 @@ pub record Alone (t : Trellis) (m : ℕ) (w : List ℕ) : Type 0 where
 
 -- for the check: who wrote the sheet does not matter
 pub sheet-sound : {t : Trellis} → Lawful t → {m : ℕ} (sheet : List Entry) {w : List ℕ} → w ∈ messages t → carries t m sheet (pathOf t w) ≡ true → Alone t m w
-sheet-sound {t} law {m} sheet {w} member accepted = record { metric = leastMetric-is law least; message = leastMessages-one law least paths ∙ ap (λ (v : List ℕ). v ∷ []) (messageOf-pathOf t w) }
+sheet-sound {t} law {m} sheet {w} member accepted = record {
+  metric = leastMetric-is law least;
+  message = leastMessages-one law least paths ∙ ap (λ (v : List ℕ). v ∷ []) (messageOf-pathOf t w);
+}
   where
     ok : Carries t m sheet (pathOf t w)
     ok = carries-test t m sheet (pathOf t w) .out (true-in (carries t m sheet (pathOf t w)) accepted)
@@ -94,8 +97,8 @@ sheet-sound {t} law {m} sheet {w} member accepted = record { metric = leastMetri
 
     paths : LeastPaths t (terminal t) m (pathOf t w ∷ [])
     paths = record {
-      once = (λ k. List·Memᴰ·not-nil k, tt);
-      there = every-cons (Ends t (terminal t)) there (λ q k. absurd (List·Memᴰ·not-nil k));
-      paid = every-cons (λ q. metric t q ≡ m) (ok .paid) (λ q k. absurd (List·Memᴰ·not-nil k));
-      full = (λ q at e. List·Memᴰ·head (sole-there q at (omega arith)));
+      once = (λ k. nil-out k, tt);
+      there = every-cons (Ends t (terminal t)) there (λ q k. absurd (nil-out k));
+      paid = every-cons (λ q. metric t q ≡ m) (ok .paid) (λ q k. absurd (nil-out k));
+      full = (λ q at e. here (sole-there q at (omega arith)));
     }

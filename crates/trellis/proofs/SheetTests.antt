@@ -3,12 +3,12 @@
 -- Not here: that a sheet which carries its claim is right (SheetSound), that an honest sheet carries it (SheetComplete).
 -- Assumes nothing.
 use mathlib.Core.Path.{_≡_, refl, sym, ap}
-use mathlib.Core.List.{List, [], _∷_, List·Memᴰ·head, List·Memᴰ·tail, List·Memᴰ·not-nil, Memᴰ·cast}
+use mathlib.Core.List.{List, [], _∷_}
 use mathlib.Core.Bool.{Bool, _&&_}
 use Prim.Native.Nat.{ℕ, _≤_, _<_}
 use native.Mathlib.Omega.{arith}
 use Rattle.lists.specs.Lists.{_∈_, below}
-use Rattle.lists.proofs.Membership.{Every, every-cons, below-in, below-out}
+use Rattle.lists.proofs.Membership.{here, further, nil-out, member-cast, Every, every-cons, below-in, below-out}
 use Rattle.trellis.specs.Trellis.{Trellis, Path, Node, same, allowed, ends, along, metric, endNode}
 use Rattle.trellis.specs.Verdict.{Entry, entry}
 use Rattle.trellis.specs.Sheet.{listedAs, listedWithin, onto, allBranches, conditionA, conditionB, conditionC, conditionD, carries}
@@ -19,6 +19,7 @@ use Rattle.trellis.proofs.Parts.{parts}
 
 -- ---- being listed
 
+-- for every test that looks for a node
 same-test : (x y : Node) → Decides (same x y) (x ≡ y)
 same-test x y =
     said (both (equal (x .level) (y .level)) (equal (x .state) (y .state)))
@@ -29,7 +30,7 @@ pub listedAs-test : (sheet : List Entry) (e : Entry) → Decides (listedAs sheet
 unfolding listedAs
 listedAs-test sheet e =
     said (some (λ f. both (same-test (f .node) (e .node)) (equal (f .cost) (e .cost))) sheet)
-    (λ f. Memᴰ·cast (entry-path (sym (f .2 .1)) (sym (f .2 .0))) (f .1)) (λ m. (e, m, (refl, refl)))
+    (λ f. member-cast (entry-path (sym (f .2 .1)) (sym (f .2 .0))) (f .1)) (λ m. (e, m, (refl, refl)))
 
 -- for B: listed with a cost of at most this
 pub record Listed (sheet : List Entry) (x : Node) (c : ℕ) : Type 0 where
@@ -41,7 +42,7 @@ pub listedWithin-test : (sheet : List Entry) (x : Node) (c : ℕ) → Decides (l
 unfolding listedWithin
 listedWithin-test sheet x c =
     said (some (λ f. both (same-test (f .node) x) (atMost (f .cost) c)) sheet)
-    (λ f. record { cost = f .0 .cost; here = Memᴰ·cast (entry-path refl (sym (f .2 .0))) (f .1); small = f .2 .1 })
+    (λ f. record { cost = f .0 .cost; here = member-cast (entry-path refl (sym (f .2 .0))) (f .1); small = f .2 .1 })
     (λ l. (record { cost = l .cost; node = x }, l .here, (refl, l .small)))
 
 -- ---- the parts of a path
@@ -52,11 +53,11 @@ arrival t p = record { cost = metric t p; node = endNode t p }
 
 -- for C and D, which go through the parts one by one
 first-part : (Q : Path → Type 0) {test : Bool} → Decides test (Q []) → Decides test (Every Q (parts []))
-first-part Q d = said d (λ h. every-cons Q h (λ p m. absurd (List·Memᴰ·not-nil m))) (λ h. h [] (List·Memᴰ·head refl))
+first-part Q d = said d (λ h. every-cons Q h (λ p m. absurd (nil-out m))) (λ h. h [] (here refl))
 
 more-parts : (Q : Path → Type 0) {a : ℕ} {p : Path} {test tests : Bool} → Decides test (Q (a ∷ p)) → Decides tests (Every Q (parts p))
     → Decides (test && tests) (Every Q (parts (a ∷ p)))
-more-parts Q {a} {p} d e = said (both d e) (λ h. every-cons Q (h .0) (h .1)) (λ h. (h (a ∷ p) (List·Memᴰ·head refl), λ q m. h q (List·Memᴰ·tail m)))
+more-parts Q {a} {p} d e = said (both d e) (λ h. every-cons Q (h .0) (h .1)) (λ h. (h (a ∷ p) (here refl), λ q m. h q (further m)))
 
 -- ---- the conditions
 
@@ -89,27 +90,32 @@ pub record Carries (t : Trellis) (m : ℕ) (sheet : List Entry) (own : Path) : T
   -- D
   pub clear : Every (Clear t sheet) (parts own)
 
+-- for B and D, which go through the branches one by one
 pub branches-test : (t : Trellis) (sheet : List Entry) {p : Entry → ℕ → Bool} {P : Entry → ℕ → Type 0}
     → ((e : Entry) (b : ℕ) → Decides (p e b) (P e b)) → Decides (allBranches t sheet p) (AllBranches t sheet P)
 branches-test t sheet d =
     each (λ e. said (each (d e) (below (allowed t (e .node .level))))
     (λ h b l. h b (below-in (allowed t (e .node .level)) l)) (λ h b m. h b (below-out (allowed t (e .node .level)) m))) sheet
 
+-- A: the origin is in the sheet with cost 0
 pub conditionA-test : (sheet : List Entry) → Decides (conditionA sheet) (entry 0 0 0 ∈ sheet)
 unfolding conditionA
 conditionA-test sheet = listedAs-test sheet (entry 0 0 0)
 
+-- B: the sheet goes on wherever the metric allows
 pub conditionB-test : (t : Trellis) (m : ℕ) (sheet : List Entry) → Decides (conditionB t m sheet) (AllBranches t sheet (Onward t m sheet))
 unfolding conditionB
 conditionB-test t m sheet =
     branches-test t sheet (λ e b. said (either (less m (onto t e b .cost)) (listedWithin-test sheet (onto t e b .node) (onto t e b .cost)))
     (λ h l. h (λ k. omega arith)) (λ h n. h (omega arith)))
 
+-- C: the message's own path is in the sheet, with its metrics
 pub conditionC-test : (t : Trellis) (sheet : List Entry) (own : Path) → Decides (conditionC t sheet own) (Every (λ p. arrival t p ∈ sheet) (parts own))
 unfolding conditionC ends along
 conditionC-test t sheet [] = first-part (λ p. arrival t p ∈ sheet) (listedAs-test sheet (entry 0 0 0))
 conditionC-test t sheet (a ∷ p) = more-parts (λ p. arrival t p ∈ sheet) (listedAs-test sheet (arrival t (a ∷ p))) (conditionC-test t sheet p)
 
+-- D: no entry leads into that path as cheaply
 pub conditionD-test : (t : Trellis) (sheet : List Entry) (own : Path) → Decides (conditionD t sheet own) (Every (Clear t sheet) (parts own))
 unfolding conditionD
 conditionD-test t sheet [] = first-part (Clear t sheet) (record { out = (λ h. tt); into = (λ h. tt) })
