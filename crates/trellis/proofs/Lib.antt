@@ -10,3 +10,4 @@ pub mod Rows
 pub mod Step
 pub mod MetNodes
 pub mod Verdicts
+pub mod Sharing
