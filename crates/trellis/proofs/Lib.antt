@@ -6,8 +6,12 @@ pub mod Ranked
 pub mod Messages
 pub mod Bounds
 pub mod SearchCases
+pub mod Places
 pub mod Rows
 pub mod Step
 pub mod MetNodes
 pub mod Verdicts
 pub mod Sharing
+pub mod Table
+pub mod Trace
+pub mod RowsMet

@@ -9,7 +9,7 @@ use native.Mathlib.Decide.{decLe}
 use native.Mathlib.Omega.{arith}
 use lib.Dec.{T, leb}
 use borrow.Author.Tests.{le-leb, lt-leb}
-use lib.ListN.{length, getD, take, drop, length-take, length-append, take-append-drop}
+use lib.ListN.{length, take, drop, length-take, length-append, take-append-drop}
 use lib.Seq.{take-suc}
 use Rattle.lists.specs.Lists.{_∈_, keep, distinct, below}
 use Rattle.lists.proofs.Membership.{Every, Within, eq-or-lt, take-out, take-more, keep-in, map-in, map-out, Mapped, flatMap-in, flatMap-out, FlatMapped, below-in, below-out}
@@ -23,6 +23,7 @@ use Rattle.trellis.proofs.Paths.{Ends, same-equality}
 use Rattle.trellis.proofs.Cost.{cost-is, cost-computed}
 use Rattle.trellis.proofs.Order.{before-order, entry-path}
 use Rattle.trellis.proofs.Ranked.{ranked-in, ranked-out, ranked-sorted, ranked-unique}
+use Rattle.trellis.proofs.Places.{place-out}
 use Rattle.trellis.proofs.Step.{Closed}
 
 -- ---- the nodes met
@@ -125,19 +126,14 @@ steps-past t j h k away = go (take-or-after before j (ranked t) (ranked-sorted t
         (λ x m. keep-in (λ x. before x (priced t (terminal t))) (take-out j (ranked t) x m) (f x m)) in
         omega (arith, length-take j (ranked t))
 
--- where a member stands
-place : (l : List Entry) {z : Entry} → z ∈ l → (i : ℕ) × (i < length l) × (getD l i z ≡ z)
-place (x ∷ l) (List·Memᴰ·head e) = (0, omega arith, sym e)
-place (x ∷ l) (List·Memᴰ·tail m) = let r = place l m in (suc (r .0), omega (arith, r .1), r .2)
-
 -- after E steps the terminal comes
 pub terminal-comes : (t : Trellis) {p : Path} → Ends t (terminal t) p → take (suc (steps t)) (ranked t) ≡ take (steps t) (ranked t) ++ (priced t (terminal t) ∷ [])
 terminal-comes t h =
     let z : Entry = priced t (terminal t) in
-    let r = place (ranked t) {z = z} (ranked-in (cost-is h)) in
-    let grows : take (suc (r .0)) (ranked t) ≡ take (r .0) (ranked t) ++ (z ∷ []) =
-    take-suc (ranked t) (r .0) z (r .1) ∙ ap (λ (u : Entry). take (r .0) (ranked t) ++ (u ∷ [])) (r .2) in
-    subst (λ (n : ℕ). take (suc n) (ranked t) ≡ take n (ranked t) ++ (z ∷ [])) (sym (steps-at t (r .0) z grows refl)) grows
+    let r = place-out z (ranked t) {a = z} (ranked-in (cost-is h)) in
+    let grows : take (suc (r .index)) (ranked t) ≡ take (r .index) (ranked t) ++ (z ∷ []) =
+    take-suc (ranked t) (r .index) z (r .within) ∙ ap (λ (u : Entry). take (r .index) (ranked t) ++ (u ∷ [])) (r .equal) in
+    subst (λ (n : ℕ). take (suc n) (ranked t) ≡ take n (ranked t) ++ (z ∷ [])) (sym (steps-at t (r .index) z grows refl)) grows
 
 -- E is finite: fewer steps than ranked nodes
 pub steps-few : (t : Trellis) {p : Path} → Ends t (terminal t) p → steps t < length (ranked t)

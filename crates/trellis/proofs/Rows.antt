@@ -21,8 +21,8 @@ use Rattle.trellis.specs.Search.{Row, noRow, rowAt, findRow, firstOpen}
 use Rattle.trellis.proofs.Paths.{same-equality}
 use Rattle.trellis.proofs.Order.{before-order}
 
--- a row is not both
-true-false : true ≡ false → ⊥
+-- a row is not closed and open
+pub true-false : true ≡ false → ⊥
 true-false e = subst T e tt
 
 -- ---- changes

@@ -157,8 +157,8 @@ module _ (t : Trellis) (e : Entry) (fs : List Branch) (known : Priced t e) (L : 
   unfolding ends along
   all-least = record {
     once = append-unique (roots (e .node .level)) (flatMap (gone t) fs) (roots-unique (e .node .level))
-    (flatMap-unique (gone t) fs (λ f. map-unique (λ p. f .input ∷ p) (sharing t (f .source)) (λ p q m n k. cc (k)) (leastPaths t (f .source .node) (f .source .cost) .once)) (gone-apart t) (L .once))
-    (λ p m n. apart p (roots-out (e .node .level) p m .1) (flatMap-out (gone t) fs n));
+        (flatMap-unique (gone t) fs (λ f. map-unique (λ p. f .input ∷ p) (sharing t (f .source)) (λ p q m n k. cc (k)) (leastPaths t (f .source .node) (f .source .cost) .once)) (gone-apart t) (L .once))
+        (λ p m n. apart p (roots-out (e .node .level) p m .1) (flatMap-out (gone t) fs n));
     there = (λ p m. there′ p (List·Memᴰ·append-cases (roots (e .node .level)) m));
     paid = (λ p m. paid′ p (List·Memᴰ·append-cases (roots (e .node .level)) m));
     full = (λ p h c. full′ p h c);

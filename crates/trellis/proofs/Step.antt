@@ -84,17 +84,16 @@ pub record Offered (Open : Entry → Type 0) (e : Entry) : Type 0 where
   pub here : Open (record { cost = cost; node = e .node })
   pub small : cost ≤ e .cost
 
--- some path to the entry's node has just its cost
-pub record Attained (t : Trellis) (e : Entry) : Type 0 where
-  pub path : Path
-  pub there : Ends t (e .node) path
-  pub paid : metric t path ≡ e .cost
+-- the path ends at the entry's node and has just its cost
+pub record Attains (t : Trellis) (e : Entry) (p : Path) : Type 0 where
+  pub there : Ends t (e .node) p
+  pub paid : metric t p ≡ e .cost
 
 -- the open nodes are what the first j ranked ones lead to, each at the least cost that they offer
 pub record Frontier (t : Trellis) (j : ℕ) (Open : Entry → Type 0) : Type 0 where
   pub start : Closed t j origin ⊎ Offered Open (entry 0 0 0)
   pub front : (e : Entry) (b : ℕ) → e ∈ take j (ranked t) → b < allowed t (e .node .level) → Closed t j (onto t e b .node) ⊎ Offered Open (onto t e b)
-  pub reached : (e : Entry) → Open e → Attained t e
+  pub reached : (e : Entry) → Open e → (p : Path) × Attains t e p
   pub apart : (e : Entry) → Open e → Closed t j (e .node) → ⊥
 
 -- ---- the step
@@ -134,17 +133,17 @@ module _ (t : Trellis) (j : ℕ) (Open : Entry → Type 0) (F : Frontier t j Ope
 
   -- its cost is right
   pub next-exact : Priced t z
-  next-exact = go (F .reached z zin)
+  next-exact = go (F .reached z zin .1)
     where
-      go : Attained t z → Priced t z
-      go r = subst (λ (c : ℕ). Cost t (z .node) c) (sym exact) (cost-is (r .there))
+      go : {p : Path} → Attains t z p → Priced t z
+      go {p} r = subst (λ (c : ℕ). Cost t (z .node) c) (sym exact) (cost-is (r .there))
         where
           low : (priced t (z .node) ∈ take j (ranked t)) ⊎ AtMost z (priced t (z .node)) → z .cost ≤ cost t (z .node)
           low (inl k) = absurd (F .apart z zin k)
           low (inr h) = at-most-cost z (priced t (z .node)) h
 
           exact : z .cost ≡ cost t (z .node)
-          exact = omega (arith, low (ranked-after (priced t (z .node)) (cost-is (r .there))), cost-is (r .there) .least (r .path) (r .there), r .paid)
+          exact = omega (arith, low (ranked-after (priced t (z .node)) (cost-is (r .there))), cost-is (r .there) .least p (r .there), r .paid)
 
   -- THE STEP: it is the next of the ranked nodes
   pub next-ranked : take (suc j) (ranked t) ≡ take j (ranked t) ++ (z ∷ [])
