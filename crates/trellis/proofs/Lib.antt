@@ -15,3 +15,4 @@ pub mod Sharing
 pub mod Table
 pub mod Trace
 pub mod RowsMet
+pub mod Relax

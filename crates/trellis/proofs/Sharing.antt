@@ -24,23 +24,14 @@ use Rattle.trellis.proofs.Step.{mark}
 
 -- ---- sums
 
-pub total : List ℕ → ℕ
+unfoldable pub total : List ℕ → ℕ
 total [] = 0
 total (n ∷ ns) = n + total ns
 
 -- the same, stopped at a cap after each addition
-pub stopped : ℕ → List ℕ → ℕ
+unfoldable pub stopped : ℕ → List ℕ → ℕ
 stopped cap [] = 0
 stopped cap (n ∷ ns) = min cap (n + stopped cap ns)
-
--- how total goes on
-pub total-none : total [] ≡ 0
-unfolding total
-total-none = refl
-
-pub total-more : (n : ℕ) (ns : List ℕ) → total (n ∷ ns) ≡ n + total ns
-unfolding total
-total-more n ns = refl
 
 -- stopping on the way, and each number before, is stopping at the end
 pub stopped-total : {A : Type 0} (cap : ℕ) (f : A → ℕ) (l : List A) → stopped cap (map (λ x. min cap (f x)) l) ≡ min cap (total (map f l))
@@ -94,7 +85,7 @@ roots zero = [] ∷ []
 roots (suc l) = []
 
 -- how many paths no branch brings: at level 0 one
-pub starting : ℕ → ℕ
+unfoldable pub starting : ℕ → ℕ
 starting zero = 1
 starting (suc l) = 0
 

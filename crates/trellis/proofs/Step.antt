@@ -26,7 +26,7 @@ use Rattle.trellis.proofs.Ranked.{Priced, ranked-in, ranked-out, ranked
 abbrev pub AtMost : Entry → Entry → Type 0
 AtMost x y = (x ≡ y) ⊎ T (before x y)
 
-at-most-before : (x y z : Entry) → AtMost x y → T (before y z) → T (before x z)
+pub at-most-before : (x y z : Entry) → AtMost x y → T (before y z) → T (before x z)
 at-most-before x y z (inl e) h = subst (λ (u : Entry). T (before u z)) (sym e) h
 at-most-before x y z (inr g) h = before-order .trans x y z g h
 
@@ -96,6 +96,20 @@ pub record Frontier (t : Trellis) (j : ℕ) (Open : Entry → Type 0) : Type 0 w
   pub reached : (e : Entry) → Open e → (p : Path) × Attains t e p
   pub apart : (e : Entry) → Open e → Closed t j (e .node) → ⊥
 
+-- without an open node every path would end at a closed one
+pub all-closed : (t : Trellis) (j : ℕ) (Open : Entry → Type 0) → Frontier t j Open → ((e : Entry) → Open e → ⊥) → {p : Path} → Allowed t p → Closed t j (endNode t p)
+unfolding ends
+all-closed t j Open F none start = go (F .start)
+  where
+    go : Closed t j origin ⊎ Offered Open (entry 0 0 0) → Closed t j origin
+    go (inl k) = k
+    go (inr o) = absurd (none (entry (o .cost) 0 0) (o .here))
+all-closed t j Open F none (step {b = b} {p = p} u al) = go (F .front (priced t (endNode t p)) b (all-closed t j Open F none al) u)
+  where
+    go : Closed t j (endNode t (b ∷ p)) ⊎ Offered Open (onto t (priced t (endNode t p)) b) → Closed t j (endNode t (b ∷ p))
+    go (inl k) = k
+    go (inr o) = absurd (none (record { cost = o .cost; node = endNode t (b ∷ p) }) (o .here))
+
 -- ---- the step
 
 module _ (t : Trellis) (j : ℕ) (Open : Entry → Type 0) (F : Frontier t j Open) (z : Entry) (zin : Open z) (zmin : (e : Entry) → Open e → AtMost z e) where
@@ -121,7 +135,7 @@ module _ (t : Trellis) (j : ℕ) (Open : Entry → Type 0) (F : Frontier t j Ope
       go (inr h) = inr (inr (at-most-before z (mark t p) (mark t (b ∷ p)) h (onto-later t (mark t p) b)))
 
   -- a reachable node is closed, or not before z
-  ranked-after : (e : Entry) → Priced t e → (e ∈ take j (ranked t)) ⊎ AtMost z e
+  pub ranked-after : (e : Entry) → Priced t e → (e ∈ take j (ranked t)) ⊎ AtMost z e
   ranked-after e c = go (frontier (c .there .allowed))
     where
       end : endNode t (c .path) ≡ e .node

@@ -21,7 +21,7 @@ use Rattle.trellis.specs.Search.{Row, rowAt}
 use Rattle.trellis.proofs.Paths.{same-equality}
 use Rattle.trellis.proofs.Order.{entry-path}
 use Rattle.trellis.proofs.Step.{Closed}
-use Rattle.trellis.proofs.Sharing.{Branch, branch, lands, Fits, shared, starting, total, total-none, total-more}
+use Rattle.trellis.proofs.Sharing.{Branch, branch, lands, Fits, shared, starting, total}
 use Rattle.trellis.proofs.Rows.{true-false, Changed}
 
 -- ---- branches that arrive
@@ -43,30 +43,26 @@ abbrev pub arriving : Trellis → List Branch → Entry → List Branch
 arriving t taken e = keep (λ f. alike (lands t f) e) taken
 
 -- how many paths of an entry's cost the taken branches bring, and the empty path at level 0
-pub ways : Trellis → List Branch → Entry → ℕ
+unfoldable pub ways : Trellis → List Branch → Entry → ℕ
 ways t taken e = starting (e .node .level) + total (map (λ f. shared t (f .source)) (arriving t taken e))
-
-pub ways-is : (t : Trellis) (taken : List Branch) (e : Entry) → ways t taken e ≡ starting (e .node .level) + total (map (λ f. shared t (f .source)) (arriving t taken e))
-unfolding ways
-ways-is t taken e = refl
 
 module _ (t : Trellis) (taken : List Branch) (e : Entry) where
   -- no branch brings it
   pub ways-none : ((f : Branch) → f ∈ taken → lands t f ≡ e → ⊥) → ways t taken e ≡ starting (e .node .level)
-  unfolding ways
+  unfolding ways total
   ways-none none =
       let l : arriving t taken e ≡ [] = keep-none (λ f. alike (lands t f) e) taken (λ f m h. none f m (alike-equality .sound (lands t f) e h)) in
-      let n : total (map (λ (f : Branch). shared t (f .source)) (arriving t taken e)) ≡ 0 = ap (λ (k : List Branch). total (map (λ f. shared t (f .source)) k)) l ∙ total-none in
+      let n : total (map (λ (f : Branch). shared t (f .source)) (arriving t taken e)) ≡ 0 = ap (λ (k : List Branch). total (map (λ f. shared t (f .source)) k)) l in
       omega arith
 
   module _ (g : Branch) where
     -- one more branch brings it
     pub ways-more : lands t g ≡ e → ways t (g ∷ taken) e ≡ shared t (g .source) + ways t taken e
-    unfolding ways
+    unfolding ways total
     ways-more h =
         let l : arriving t (g ∷ taken) e ≡ g ∷ arriving t taken e = keep-yes (λ f. alike (lands t f) e) g taken (subst (λ (u : Entry). T (alike (lands t g) u)) h (alike-equality .complete (lands t g))) in
         let n : total (map (λ (f : Branch). shared t (f .source)) (arriving t (g ∷ taken) e)) ≡ shared t (g .source) + total (map (λ (f : Branch). shared t (f .source)) (arriving t taken e)) =
-        ap (λ (k : List Branch). total (map (λ f. shared t (f .source)) k)) l ∙ total-more (shared t (g .source)) (map (λ f. shared t (f .source)) (arriving t taken e)) in
+        ap (λ (k : List Branch). total (map (λ f. shared t (f .source)) k)) l in
         omega arith
 
     -- one more branch brings something else
