@@ -16,3 +16,5 @@ pub mod Table
 pub mod Trace
 pub mod RowsMet
 pub mod Relax
+pub mod Between
+pub mod Expand

@@ -15,7 +15,7 @@ use Rattle.trellis.specs.Search.{Row, noRow, rowAt}
 use Rattle.trellis.proofs.Places.{place-out, place-in, places-unique}
 use Rattle.trellis.proofs.MetNodes.{metNodes, Met, met-in, met-out, length-some-met, length-all-met}
 use Rattle.trellis.proofs.Sharing.{Branch, branch, lands}
-use Rattle.trellis.proofs.Table.{Link, Table, Kept, Taken}
+use Rattle.trellis.proofs.Table.{Link, Table, Covered, Taken}
 
 abbrev pub nodeOf : Row → Node
 nodeOf r = r .entry .node
@@ -58,7 +58,7 @@ module _ (t : Trellis) (cap j : ℕ) (taken : List Branch) (rows : List Row) (B 
       at : (i : ℕ) (x : Node) → i < length rows → nodeOf (rowAt rows i) ≡ x → x ∈ map nodeOf rows
       at i x h e = Memᴰ·cast (sym e) (map-in nodeOf (place-in noRow rows i h))
 
-      pick : (f : Branch) → (f ∈ taken) ⊎ ⊥ → Kept rows (lands t f)
+      pick : (f : Branch) → (f ∈ taken) ⊎ ⊥ → Covered rows (lands t f)
       pick f (inl m) = B .reach f m
       pick f (inr m) = absurd m
 

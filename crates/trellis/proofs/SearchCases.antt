@@ -9,7 +9,7 @@ use lib.ListN.{getD}
 use Rattle.lists.specs.Lists.{below}
 use Rattle.trellis.specs.Trellis.{Trellis, allowed}
 use Rattle.trellis.specs.Verdict.{Verdict, answered, roomShort, allowanceSpent, tied}
-use Rattle.trellis.specs.Search.{Ended, findRow, firstOpen, entered, relax, onward, fan, expand, run, searched, trace, messageOf, read}
+use Rattle.trellis.specs.Search.{Ended, findRow, firstOpen, entered, relax, onward, fan, expand, run, searched, trace, read}
 
 -- code 7, 5 with one message bit, over a block given as hard bits and weights
 abbrev small : List ℕ → List ℕ → Trellis
@@ -44,5 +44,5 @@ pub cases :
     answer zeros 6 5 ∷ answer eleventh 6 5 ∷ []) ≡
     (answered (1 ∷ []) 3 3 ∷ roomShort 2 ∷ allowanceSpent 2 ∷ roomShort 1 ∷ roomShort 0 ∷ allowanceSpent 0 ∷
     tied 0 5 ∷ tied 2 5 ∷ [])
-unfolding below allowed findRow firstOpen entered relax onward fan expand run searched trace messageOf read
+unfolding below allowed findRow firstOpen entered relax onward fan expand run searched trace read
 cases = refl

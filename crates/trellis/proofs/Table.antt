@@ -88,7 +88,7 @@ pub record Stored (rows : List Row) (e : Entry) : Type 0 where
   pub equal : rowAt rows row .entry ≡ e
 
 -- a row for the entry's node, no dearer than the entry
-pub record Kept (rows : List Row) (e : Entry) : Type 0 where
+pub record Covered (rows : List Row) (e : Entry) : Type 0 where
   pub row : ℕ
   pub within : row < length rows
   pub equal : rowAt rows row .entry .node ≡ e .node
@@ -107,7 +107,7 @@ pub record Table (t : Trellis) (cap j : ℕ) (taken : List Branch) (rows : List 
   pub shut : (i : ℕ) → i < length rows → rowAt rows i .closed ≡ true → rowAt rows i .entry ∈ take j (ranked t)
   pub stored : (e : Entry) → e ∈ take j (ranked t) → Stored rows e
   -- every taken branch leads to a row, no dearer than what it brings
-  pub reach : (f : Branch) → f ∈ taken → Kept rows (lands t f)
+  pub reach : (f : Branch) → f ∈ taken → Covered rows (lands t f)
   -- every count is that of the paths which the taken branches bring
   pub counted : (i : ℕ) → i < length rows → rowAt rows i .count ≡ min cap (ways t taken (rowAt rows i .entry))
   -- the terminal is not closed
@@ -227,8 +227,8 @@ module _ (t : Trellis) (cap j : ℕ) (taken : List Branch) (rows after : List Ro
           let v = survives (s .row) (s .within) in
           record { row = s .row; within = omega (arith, s .within, C .longer); shut = v .closed ∙ s .shut; equal = v .exact (s .shut) ∙ s .equal }
 
-      reach′ : (f : Branch) → f ∈ (g ∷ taken) → Kept after (lands t f)
-      reach′ f (List·Memᴰ·head e) = subst (λ (u : Branch). Kept after (lands t u)) (sym e)
+      reach′ : (f : Branch) → f ∈ (g ∷ taken) → Covered after (lands t f)
+      reach′ f (List·Memᴰ·head e) = subst (λ (u : Branch). Covered after (lands t u)) (sym e)
           (record { row = k; within = C .within; equal = ap (λ (u : Row). u .entry .node) (C .here) ∙ A .node; small = omega (arith, ap (λ (u : Row). u .entry .cost) (C .here), A .small) })
       reach′ f (List·Memᴰ·tail m) =
           let s = B .reach f m in

@@ -2,14 +2,15 @@
 -- Rows and the store's functions; one branch; one node; the run; the trace; the outcome read as a verdict. All of them compute.
 -- Not believed: proofs/Searched shows that the outcome is the verdict of document 01, which alone says what a decode must answer.
 -- Assumes nothing.
-use mathlib.Core.List.{List, [], _∷_, _++_, reverse}
+use mathlib.Core.List.{List, [], _∷_, _++_}
 use mathlib.Core.Bool.{Bool, true, false, cond, _&&_}
 use Prim.Native.Nat.{ℕ, zero, suc, _+_, min}
 use lib.Dec.{eqb, ltb, leb}
-use lib.ListN.{length, getD, set, drop}
+use lib.ListN.{length, getD, set}
 use Rattle.trellis.specs.Trellis.{Trellis, Path, Node, same, top, allowed, terminal}
 use Rattle.trellis.specs.Verdict.{Entry, entry, before, Verdict, answered, roomShort, allowanceSpent, tied}
 use Rattle.trellis.specs.Sheet.{onto}
+use Rattle.trellis.specs.Lawful.{messageOf}
 
 -- ---- rows
 
@@ -153,10 +154,6 @@ searched t cap (suc room) allowance = run t cap (suc room) allowance 0 started
 unfoldable pub trace : List Row → ℕ → ℕ → Path
 trace rows zero i = []
 trace rows (suc level) i = rowAt rows i .input ∷ trace rows level (rowAt rows i .parent)
-
--- the message of a path to the terminal: the tail dropped, the first input first
-unfoldable pub messageOf : Trellis → Path → List ℕ
-messageOf t p = reverse (drop (t .tail) p)
 
 -- an outcome as a verdict: one least path is an answer, more are a tie
 unfoldable pub read : Trellis → List Row → Outcome → Verdict
