@@ -90,7 +90,7 @@ met-some t j = length-some-met t j (origin ∷ []) ((λ m. elim m [ ]), tt) (λ 
 -- ---- E
 
 -- the (j + 1)-th ranked node stands in the list
-next-inside : (t : Trellis) (j : ℕ) (z : Entry) → take (suc j) (ranked t) ≡ take j (ranked t) ++ (z ∷ []) → j < length (ranked t)
+pub next-inside : (t : Trellis) (j : ℕ) (z : Entry) → take (suc j) (ranked t) ≡ take j (ranked t) ++ (z ∷ []) → j < length (ranked t)
 next-inside t j z e = omega (arith, ap length e, length-append (take j (ranked t)) (z ∷ []), length-take j (ranked t), length-take (suc j) (ranked t))
 
 -- the terminal is ranked node j + 1: E is j

@@ -9,7 +9,7 @@ use lib.ListN.{getD}
 use Rattle.lists.specs.Lists.{below}
 use Rattle.trellis.specs.Trellis.{Trellis, allowed}
 use Rattle.trellis.specs.Verdict.{Verdict, answered, roomShort, allowanceSpent, tied}
-use Rattle.trellis.specs.Search.{Ended, findRow, firstOpen, entered, relax, onward, fan, expand, run, searched, trace, read}
+use Rattle.trellis.specs.Search.{findRow, firstOpen, entered, relax, onward, fan, expand, run, searched, trace, read, verdictOf}
 
 -- code 7, 5 with one message bit, over a block given as hard bits and weights
 abbrev small : List ℕ → List ℕ → Trellis
@@ -24,7 +24,7 @@ small hard weights = record {
 }
 
 abbrev answer : Trellis → ℕ → ℕ → Verdict
-answer t room allowance = let e : Ended = searched t 2 room allowance in read t (e .rows) (e .outcome)
+answer t room allowance = verdictOf t (searched t 2 room allowance)
 
 -- 3 -5 -2 1 -4 -6
 abbrev fourth : Trellis

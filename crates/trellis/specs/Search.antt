@@ -99,7 +99,7 @@ relax t cap room i b rows = let a : Row = arrival t rows i b in entered cap room
 
 -- go on where there was room
 unfoldable pub onward : Tried → (List Row → Tried) → Tried
-onward r go = elim (r .full) [ true ↦ r | false ↦ go (r .rows) ]
+onward r go = let next : Tried = go (r .rows) in cond (r .full) r next
 
 -- so many branches from row i, from an input upwards, up to the first that has no room
 unfoldable pub fan : Trellis → ℕ → ℕ → ℕ → ℕ → ℕ → List Row → Tried
@@ -133,15 +133,13 @@ arrived rows i steps = record { rows = rows; outcome = found (rowAt rows i .entr
 unfoldable pub run : Trellis → ℕ → ℕ → ℕ → ℕ → List Row → Ended
 run t cap room zero steps rows =
     let i : ℕ = firstOpen rows in
-    elim (same (rowAt rows i .entry .node) (terminal t)) [ true ↦ arrived rows i steps | false ↦ record { rows = rows; outcome = spent steps } ]
+    cond (same (rowAt rows i .entry .node) (terminal t)) (arrived rows i steps) (record { rows = rows; outcome = spent steps })
 run t cap room (suc left) steps rows =
     let i : ℕ = firstOpen rows in
     let next : Tried = expand t cap room i rows in
     let rest : Ended = run t cap room left (suc steps) (next .rows) in
-    elim (same (rowAt rows i .entry .node) (terminal t)) [
-      | true ↦ arrived rows i steps
-      | false ↦ elim (next .full) [ true ↦ record { rows = next .rows; outcome = full steps } | false ↦ rest ]
-    ]
+    let further : Ended = cond (next .full) (record { rows = next .rows; outcome = full steps }) rest in
+    cond (same (rowAt rows i .entry .node) (terminal t)) (arrived rows i steps) further
 
 -- the whole search: without room for the origin it does nothing
 unfoldable pub searched : Trellis → ℕ → ℕ → ℕ → Ended
@@ -160,3 +158,7 @@ unfoldable pub read : Trellis → List Row → Outcome → Verdict
 read t rows (found metric steps count row) = cond (leb count 1) (answered (messageOf t (trace rows (top t) row)) metric steps) (tied metric steps)
 read t rows (full steps) = roomShort steps
 read t rows (spent steps) = allowanceSpent steps
+
+-- how the search ended, as a verdict
+abbrev pub verdictOf : Trellis → Ended → Verdict
+verdictOf t e = read t (e .rows) (e .outcome)
