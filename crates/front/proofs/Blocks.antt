@@ -16,7 +16,8 @@ use Rattle.front.specs.Reports.{seen, seenAll, reportOf}
 use Rattle.front.specs.Answers.{finiteRun}
 use Rattle.front.specs.declared.Report.{Report}
 
-long : (b : Bool) (m n : ℕ) → cond b (suc m) 0 ≡ suc n → T b × (m ≡ n)
+-- a run that takes a reading and is as long as the block
+pub long : (b : Bool) (m n : ℕ) → cond b (suc m) 0 ≡ suc n → T b × (m ≡ n)
 long true m n e = (tt, omega arith)
 long false m n e = absurd (omega arith)
 

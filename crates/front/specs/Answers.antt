@@ -1,6 +1,6 @@
 -- What is promised of `front`: for every front end, readings and symbol buffer, the paper's number, its values and what the buffer holds at the end.
 -- To be believed, in this order. Two floats are equal here only if they are the same number with the same sign, so -0 and +0 differ, as their bits do; every NaN
--- is one value, and none is ever handed back. Definitions only. Assumes nothing.
+-- is one value, and none is ever handed back (proofs/Reported.antt). Definitions only. Assumes nothing.
 use Prim.Native.Nat.{ℕ, suc}
 use mathlib.Core.Bool.{Bool, not, cond, _||_}
 use mathlib.Core.List.{List, [], _∷_, _++_, map}

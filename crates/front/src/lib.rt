@@ -1,9 +1,9 @@
-// Readings to symbols, document 01: a block of readings goes through a front end to one symbol each, with a report of the
-// lowest and highest reading; what is promised stands in specs/Answers.antt.
+// From readings to symbols: a block of readings goes through a front end to one symbol each. What is promised of `front`, for
+// every bit pattern of every float, is the one equation of its contract, with `fronted` of specs/Answers.antt.
 ghost use mathlib.Core.Path.{_≡_};
-ghost use lib.Dec.{T};
 ghost use mathlib.Core.List.{_++_, map};
-ghost use Prim.Native.Nat.{_<_, _≤_, min};
+ghost use Prim.Native.Nat.{min};
+ghost use lib.Dec.{T};
 ghost use lib.ListN.{length, drop};
 ghost use lib.Ieee.Scale.{finite};
 ghost use Rattle.front.specs.Limits.{furthest};
@@ -46,8 +46,9 @@ fn is_finite(number: f32) -> bool
     number < infinity && -infinity < number
 }
 
-// How far from zero a product's symbol lies, from the product's bits. Below exponent 126 it is less than a half; above 133 it
-// is 128 or more.
+// How far from zero a product's symbol lies, from the product's bits: a field of 8 bits for the exponent above 23 digits.
+// Below exponent 126 the product is less than a half, and above 133 it is 128 or more. Between them its significand, the digits
+// behind their leading one, holds whole numbers above the last 150 - exponent places.
 fn distance(bits: u32) -> u32
     ensures { λ r. ⌜ r ≡ min furthest (nearest bits) ⌝ }
 {
@@ -98,10 +99,14 @@ impl FrontEnd {
         ensures { λ r. ⌜ r ≡ symbolOf self reading ⌝ }
     {
         match self {
-            FrontEnd::Gain(gain) => symbol_of_product(f32::to_bits(reading * gain)),
-            FrontEnd::Offset { offset, gain } => symbol_of_product(f32::to_bits(
-                (reading - offset) * gain,
-            )),
+            FrontEnd::Gain(gain) => {
+                let product = reading * gain;
+                symbol_of_product(f32::to_bits(product))
+            }
+            FrontEnd::Offset { offset, gain } => {
+                let product = (reading - offset) * gain;
+                symbol_of_product(f32::to_bits(product))
+            }
             FrontEnd::Threshold(threshold) => if threshold <= reading { 1 } else { -1 },
         }
     }
@@ -126,7 +131,7 @@ impl Report {
     }
 }
 
-// The index of the first reading that is not finite, or their number.
+// The index of the first reading that is not finite; the number of readings if all are.
 fn finite_run(readings: &[f32]) -> usize
     ensures { λ r. ⌜ r ≡ finiteRun (now (readings .entry)) ⌝ }
 {
@@ -160,7 +165,7 @@ fn convert(front_end: FrontEnd, readings: &[f32], symbols: &mut [i8]) -> Report
     report
 }
 
-// A block of readings to symbols, one each at the start of `symbols`, with the report.
+// A block of readings to symbols, one each at the start of `symbols`, with the report. On a refusal nothing is written.
 pub fn front(front_end: FrontEnd, readings: &[f32], symbols: &mut [i8]) -> Fronted
     ensures { λ r. ⌜ (told r, now (symbols .exit)) ≡ fronted «front_end» (now (readings .entry)) (now (symbols .entry)) ⌝ }
 {
@@ -185,7 +190,7 @@ pub fn front(front_end: FrontEnd, readings: &[f32], symbols: &mut [i8]) -> Front
     Fronted::Done { count, report }
 }
 
-// The symbol of a product with these bits, for a caller in C or Rust who would try every bit pattern.
+// The symbol of a product with these bits, for a program in C or Rust that tries every bit pattern (second/rounding).
 #[no_mangle]
 pub extern "C" fn plumtassel_symbol_of_product(bits: u32) -> i8
     ensures { λ r. ⌜ r ≡ rounded bits ⌝ }
