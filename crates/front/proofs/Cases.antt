@@ -1,9 +1,9 @@
 -- Case 15 of document 01, from the definitions alone: "Gain 2: readings 0.25, -0.25, 63, 63.25, 1000 give 1, -1, 126, 127, 127." antt computes what `fronted` says,
 -- so that the definitions are seen to mean what the paper says. The program `front_cases` runs many more. Assumes nothing.
 use mathlib.Core.Path.{_≡_, refl}
-use mathlib.Core.List.{List, [], _∷_, map}
+use mathlib.Core.List.{List, [], _∷_}
 use Prim.Native.Nat.{ℕ}
-use lib.IntN.{ℤ, pos, negsuc}
+use lib.IntN.{pos, negsuc}
 use lib.Ieee as Ieee
 use lib.Ieee.{Float, binary32}
 use Rattle.front.specs.Answers.{told, fronted}

@@ -1,6 +1,5 @@
 -- No product of a good front end is a NaN. A difference of finite floats is finite or an infinity, since only two infinities make a NaN of it; and a product of
 -- that with a finite gain is no NaN, since only a zero times an infinity makes one, and the gain is above zero. Assumes nothing.
-use mathlib.Core.Path.{_≡_}
 use mathlib.Core.Bool.{Bool, true, false, not, cond, _&&_, Bool·beq}
 use Prim.Native.Nat.{ℕ, zero, suc, _+_, _-_, _*_, _/_, _%_, _^_, compare}
 use native.Mathlib.Omega.{arith}
@@ -9,7 +8,6 @@ use lib.IntN.{ℤ, pos}
 use borrow.Author.Tests.{ne-eqb}
 use lib.Ieee as Ieee
 use lib.Ieee.{Float, Format, nan, inf, fin, binary32, isNan, up, down}
-use lib.Ieee.Fits.{and-l, and-r}
 use lib.Ieee.Scale.{finite}
 use Rattle.front.specs.Symbols.{goodGain}
 

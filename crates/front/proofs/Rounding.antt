@@ -1,7 +1,7 @@
 -- The rounding's meaning, `nearest`, in the three ranges of the exponent that the code tells apart. Below 126 the product is less than a half, from 134 on it is
 -- 128 or more, and between them 2 ^ (150 - exponent) parts of the significand make 1, so that the remainder tells up from down. Assumes nothing.
 use mathlib.Core.Path.{_≡_, sym, ap, _∙_}
-use Prim.Native.Nat.{ℕ, _+_, _-_, _*_, _/_, _%_, _^_, _≤_, _<_, max}
+use Prim.Native.Nat.{ℕ, _+_, _-_, _*_, _/_, _%_, _^_, _≤_, _<_}
 use native.Mathlib.Nat.{mul-left-comm, mul-assoc, add-mul, mul-le-mul, le-div-iff-mul-le, div-eq-of-lt, div-eq-of-lt-le, div-add-mod', mul-div-mul-right, mod-lt, max-eq-right, max-le, le-trans, lt-of-le-of-lt, add-le-add, le-refl, mul-le-mul-left}
 use native.Mathlib.Omega.{arith}
 use mathlib.Core.Bool.{Bool, true, false, cond}

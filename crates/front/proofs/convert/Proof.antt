@@ -20,8 +20,11 @@ use Rattle.front.proofs.convert.Statement.{statement}
 use Rattle.front.proofs.convert.Tie as tie
 
 record Passed (frontEnd : FrontEnd) (readings : List Float) (symbols₀ symbols : List ℤ) (report : Report) (i : ℕ) : Type 0 where
+  -- no more readings are passed than there are
   within : i ≤ length readings
+  -- their symbols stand before what the buffer held
   written : symbols ≡ take i (map (symbolOf frontEnd) readings) ++ drop i symbols₀
+  -- the report, with the readings that are left, comes to the block's
   reported : seenAll report (drop i readings) ≡ reportOf readings
 
 abbrev Inv-loop : tie.InvT-loop

@@ -2,12 +2,11 @@
 -- the number of parts that make 1. Assumes nothing.
 use mathlib.Core.Path.{_≡_, sym, _∙_}
 use mathlib.Core.Logic.{⊎-elim}
-use Prim.Native.Nat.{ℕ, _+_, _-_, _*_, _/_, _%_, _^_, _≤_, _<_, min}
+use Prim.Native.Nat.{ℕ, _-_, _*_, _%_, _^_, _≤_, _<_}
 use native.Mathlib.Nat.{min-eq-left, min-eq-right, mod-le, div-le-self, le-of-lt}
 use native.Mathlib.Omega.{arith}
 use borrow.Author.Needs.{needs}
 use lib.Pow.{pow-pos, pow-mono}
-use Rattle.front.specs.Limits.{furthest}
 use Rattle.front.specs.Rounding.{field, nearest}
 use Rattle.front.proofs.Rounding.{led, one, small, large, up, down}
 use Rattle.front.proofs.distance.Statement.{statement}

@@ -1,6 +1,4 @@
 -- `front::FrontEnd::symbol` meets its contract, case by case: no product is a NaN (proofs/Numbers.antt), so its bits are there to be rounded. Assumes nothing.
-use mathlib.Core.Path.{_≡_}
-use mathlib.Core.Bool.{_&&_}
 use borrow.Author.Needs.{needs}
 use lib.Dec.{T}
 use lib.Ieee as Ieee
