@@ -26,3 +26,5 @@ pub mod Expand
 pub mod Found
 pub mod Run
 pub mod Searched
+pub mod Keeping
+pub mod Cheaper
