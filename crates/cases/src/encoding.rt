@@ -1,12 +1,12 @@
 // The blocks to try that concern the encoder. A buffer is filled with 9s before each call, so that what is untouched shows.
-use crate::print::count;
-use crate::print::digits;
-use crate::print::number;
-use crate::print::text;
 use codes::encoder::Encoded;
 use codes::encoder::encode;
 use codes::table::Code;
 use codes::table::house;
+use show::count;
+use show::digits;
+use show::text;
+use show::word;
 
 // Answered: cases 1 to 3, the longest message, the longest block, every house code.
 pub fn answered() {
@@ -86,13 +86,13 @@ fn tried(code: Code, message: &[u8], out: &mut [u8]) {
 fn describe(code: Code) {
     let generators = code.generators;
     text(b"encode n=");
-    count(code.outputs);
+    word(code.outputs);
     text(b" m=");
-    count(code.memory);
+    word(code.memory);
     text(b" (");
-    count(generators[0]);
+    word(generators[0]);
     text(b", ");
-    count(generators[1]);
+    word(generators[1]);
     text(b")");
 }
 
@@ -100,7 +100,7 @@ fn report(answer: Encoded) {
     match answer {
         Encoded::Done(n) => {
             text(b": 0 done, ");
-            number(n as u64);
+            count(n);
             text(b" symbols, buffer ");
         }
         Encoded::BadCode => text(b": 1 code outside the rules, buffer "),

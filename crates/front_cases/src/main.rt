@@ -1,6 +1,5 @@
 // Document 01's case 15 and the edges of the floats, run through `front`: what went in, and what came out. Floats are shown by
 // their bits. The symbol buffer has eight places, each 99 before the call, so that the untouched ones are seen.
-mod print;
 
 use front::FrontEnd;
 use front::Fronted;
@@ -17,16 +16,16 @@ fn infinity() -> f32 {
 
 // The paper's number and values.
 fn told(number: usize, count: usize, index: usize, lowest: f32, highest: f32) {
-    print::text(b"  out  ");
-    print::count(number);
-    print::text(b" count ");
-    print::count(count);
-    print::text(b" index ");
-    print::count(index);
-    print::text(b" lowest ");
-    print::float(lowest);
-    print::text(b" highest ");
-    print::float(highest);
+    show::text(b"  out  ");
+    show::count(number);
+    show::text(b" count ");
+    show::count(count);
+    show::text(b" index ");
+    show::count(index);
+    show::text(b" lowest ");
+    show::float(lowest);
+    show::text(b" highest ");
+    show::float(highest);
 }
 
 fn answered(answer: Fronted) {
@@ -41,18 +40,18 @@ fn answered(answer: Fronted) {
 fn asked(front_end: FrontEnd) {
     match front_end {
         FrontEnd::Gain(gain) => {
-            print::text(b"\n  in   gain ");
-            print::float(gain);
+            show::text(b"\n  in   gain ");
+            show::float(gain);
         }
         FrontEnd::Offset { offset, gain } => {
-            print::text(b"\n  in   offset ");
-            print::float(offset);
-            print::text(b" gain ");
-            print::float(gain);
+            show::text(b"\n  in   offset ");
+            show::float(offset);
+            show::text(b" gain ");
+            show::float(gain);
         }
         FrontEnd::Threshold(threshold) => {
-            print::text(b"\n  in   threshold ");
-            print::float(threshold);
+            show::text(b"\n  in   threshold ");
+            show::float(threshold);
         }
     }
 }
@@ -60,15 +59,15 @@ fn asked(front_end: FrontEnd) {
 // One case: its text, what goes in, and what comes out.
 fn run(name: &[u8], front_end: FrontEnd, readings: &[f32]) {
     let mut symbols = [99i8; 8];
-    print::text(name);
+    show::text(name);
     asked(front_end);
-    print::text(b"; readings");
-    print::floats(readings);
-    print::text(b"\n");
+    show::text(b"; readings");
+    show::floats(readings);
+    show::text(b"\n");
     answered(front::front(front_end, readings, &mut symbols));
-    print::text(b"; symbols");
-    print::symbols(&symbols);
-    print::text(b"\n");
+    show::text(b"; symbols");
+    show::symbols(&symbols);
+    show::text(b"\n");
 }
 
 // Halves go away from zero; the floats next below them do not.
@@ -234,11 +233,11 @@ fn bad_sizes() {
 fn longest() {
     let readings = [1.0f32; 865];
     let mut symbols = [99i8; 865];
-    print::text(b"gain 1, 864 readings\n");
+    show::text(b"gain 1, 864 readings\n");
     answered(front::front(FrontEnd::Gain(1.0), &readings[..864], &mut symbols));
-    print::text(b"\ngain 1, 865 readings\n");
+    show::text(b"\ngain 1, 865 readings\n");
     answered(front::front(FrontEnd::Gain(1.0), &readings, &mut symbols));
-    print::text(b"\n");
+    show::text(b"\n");
 }
 
 fn main() {

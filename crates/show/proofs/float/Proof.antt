@@ -4,8 +4,8 @@ use mathlib.Core.Bool.{true, false, not, true≢false}
 use borrow.Author.Needs.{needs}
 use lib.Dec.{T}
 use lib.Ieee.{Float, nan, inf, fin, ne, isNan}
-use Rattle.front_cases.proofs.print.float.Statement.{statement}
-use Rattle.front_cases.proofs.print.float.Tie as tie
+use Rattle.show.proofs.float.Statement.{statement}
+use Rattle.show.proofs.float.Tie as tie
 
 equals-itself : (x : Float) → ne x x ≡ false → T (not (isNan x))
 unfolding ne isNan

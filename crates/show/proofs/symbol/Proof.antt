@@ -11,8 +11,8 @@ use mir.Facts.{sfits-widen}
 use mir.Syntax.{w8, w16, w64}
 use mir.Val.{Fits, SFits, toZ, ofZ}
 use mir.ValLaws.{toZ-ofZ}
-use Rattle.front_cases.proofs.print.symbol.Statement.{statement}
-use Rattle.front_cases.proofs.print.symbol.Tie as tie
+use Rattle.show.proofs.symbol.Statement.{statement}
+use Rattle.show.proofs.symbol.Tie as tie
 
 -- what a cast to a count asks
 abbrev Counts : ℤ → Type 0

@@ -1,15 +1,15 @@
--- `front_cases::print::floats` is safe and ends: the measure is how many are left. Assumes nothing.
+-- `front_cases::print::symbols` is safe and ends: the measure is how many are left. Assumes nothing.
 use Prim.Native.Nat.{_-_, _≤_}
 use borrow.Author.Needs.{needs}
 use lib.ListN.{length}
-use Rattle.front_cases.proofs.print.floats.Statement.{statement}
-use Rattle.front_cases.proofs.print.floats.Tie as tie
+use Rattle.show.proofs.symbols.Statement.{statement}
+use Rattle.show.proofs.symbols.Tie as tie
 
 abbrev Inv-loop : tie.InvT-loop
-Inv-loop xs i₀ space i = i ≤ length xs
+Inv-loop zs i₀ space i = i ≤ length zs
 
 abbrev μ-loop : tie.MeasureT-loop
-μ-loop xs i₀ space i = length xs - i
+μ-loop zs i₀ space i = length zs - i
 
 loop-holds : tie.Need-loop-holds Inv-loop μ-loop
 loop-holds c = search needs
@@ -20,14 +20,11 @@ slice-aggregate-text c = search needs
 text-requires : tie.Need-text-requires Inv-loop μ-loop
 text-requires c κs = search needs
 
-mul-float : tie.Need-mul-float Inv-loop μ-loop
-mul-float c = search needs
+shared-slice-copy-out-symbol : tie.Need-shared-slice-copy-out-symbol Inv-loop μ-loop
+shared-slice-copy-out-symbol c = search needs
 
-shared-slice-read-float : tie.Need-shared-slice-read-float Inv-loop μ-loop
-shared-slice-read-float c = search needs
-
-float-requires : tie.Need-float-requires Inv-loop μ-loop
-float-requires c κs = search needs
+symbol-requires : tie.Need-symbol-requires Inv-loop μ-loop
+symbol-requires c κs = search needs
 
 add-i : tie.Need-add-i Inv-loop μ-loop
 add-i c = search needs
@@ -41,8 +38,8 @@ loop-again c = search needs
 returns : tie.Need-returns Inv-loop μ-loop
 returns c = search needs
 
-pub floats-spec : {M : Type 1} → statement M
-floats-spec =
+pub symbols-spec : {M : Type 1} → statement M
+symbols-spec =
     tie.close
     (tie.spec
     Inv-loop
@@ -50,9 +47,8 @@ floats-spec =
     loop-holds
     slice-aggregate-text
     text-requires
-    mul-float
-    shared-slice-read-float
-    float-requires
+    shared-slice-copy-out-symbol
+    symbol-requires
     add-i
     loop-less
     loop-again
