@@ -5,3 +5,4 @@ pub mod Order
 pub mod Ranked
 pub mod Messages
 pub mod Bounds
+pub mod SearchCases
