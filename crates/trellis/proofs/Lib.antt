@@ -6,3 +6,7 @@ pub mod Ranked
 pub mod Messages
 pub mod Bounds
 pub mod SearchCases
+pub mod Places
+pub mod Step
+pub mod MetNodes
+pub mod Verdicts
