@@ -10,3 +10,4 @@ pub mod Places
 pub mod Step
 pub mod MetNodes
 pub mod Verdicts
+pub mod Sharing
