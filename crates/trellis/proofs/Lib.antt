@@ -11,3 +11,8 @@ pub mod Step
 pub mod MetNodes
 pub mod Verdicts
 pub mod Sharing
+pub mod Rows
+pub mod Entered
+pub mod Table
+pub mod Trace
+pub mod RowsMet
