@@ -16,3 +16,6 @@ pub mod Entered
 pub mod Table
 pub mod Trace
 pub mod RowsMet
+pub mod Relax
+pub mod Between
+pub mod Expand
