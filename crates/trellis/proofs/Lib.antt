@@ -19,3 +19,6 @@ pub mod RowsMet
 pub mod Relax
 pub mod Between
 pub mod Expand
+pub mod Found
+pub mod Run
+pub mod Searched
