@@ -22,3 +22,4 @@ pub mod Expand
 pub mod Found
 pub mod Run
 pub mod Searched
+pub mod Safe
