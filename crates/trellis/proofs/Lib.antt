@@ -5,3 +5,14 @@ pub mod Order
 pub mod Ranked
 pub mod Messages
 pub mod Bounds
+pub mod SearchCases
+pub mod Places
+pub mod Rows
+pub mod Step
+pub mod MetNodes
+pub mod Verdicts
+pub mod Sharing
+pub mod Table
+pub mod Trace
+pub mod RowsMet
+pub mod Relax

@@ -2,3 +2,4 @@ pub mod Trellis
 pub mod Verdict
 pub mod Sheet
 pub mod Lawful
+pub mod Search

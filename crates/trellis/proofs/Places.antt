@@ -1,0 +1,37 @@
+-- Members of a list by their places: where a member stands, and that a list whose places differ has no repeats. Assumes nothing.
+use mathlib.Core.Path.{_≡_, refl, sym, _∙_}
+use mathlib.Core.List.{List, [], _∷_, map, List·Memᴰ·head, List·Memᴰ·tail}
+use Prim.Native.Nat.{ℕ, zero, suc, _<_}
+use native.Mathlib.Nat.{suc-inj}
+use native.Mathlib.Omega.{arith}
+use lib.ListN.{length, getD}
+use Rattle.lists.specs.Lists.{_∈_}
+use Rattle.lists.proofs.Membership.{map-out, Mapped}
+use Rattle.lists.proofs.Unique.{Unique}
+
+module _ {A : Type 0} (d : A) where
+  -- a member stands here
+  pub record Place (l : List A) (a : A) : Type 0 where
+    pub index : ℕ
+    pub within : index < length l
+    pub equal : getD l index d ≡ a
+
+  pub place-out : (l : List A) {a : A} → a ∈ l → Place l a
+  place-out (x ∷ l) (List·Memᴰ·head e) = record { index = 0; within = omega arith; equal = sym e }
+  place-out (x ∷ l) (List·Memᴰ·tail m) = let r = place-out l m in record { index = suc (r .index); within = omega (arith, r .within); equal = r .equal }
+
+  pub place-in : (l : List A) (i : ℕ) → i < length l → getD l i d ∈ l
+  place-in [] i h = absurd (omega arith)
+  place-in (x ∷ l) zero h = List·Memᴰ·head refl
+  place-in (x ∷ l) (suc i) h = List·Memᴰ·tail (place-in l i (omega arith))
+
+  -- to show that no image comes twice
+  pub places-unique : {B : Type 0} (f : A → B) (l : List A) → ((i k : ℕ) → i < length l → k < length l → f (getD l i d) ≡ f (getD l k d) → i ≡ k) → Unique (map f l)
+  places-unique f [] apart = tt
+  places-unique f (x ∷ l) apart = ((λ m. go (map-out f l m)), places-unique f l (λ i k h g e. suc-inj (apart (suc i) (suc k) (omega arith) (omega arith) e)))
+    where
+      go : Mapped f l (f x) → ⊥
+      go r =
+          let p = place-out l (r .member) in
+          let e : 0 ≡ suc (p .index) = apart 0 (suc (p .index)) (omega arith) (omega (arith, p .within)) (cc (r .equal, p .equal)) in
+          omega arith

@@ -1,0 +1,37 @@
+-- The verdict by how a search came to its end: no room at all, full after j steps, the allowance spent, the terminal found.
+-- What the search's last step cites. Assumes nothing.
+use mathlib.Core.Path.{_≡_, refl, ap}
+use Prim.Native.Nat.{ℕ, suc, _≤_, _<_, min}
+use native.Mathlib.Omega.{arith}
+use borrow.Author.Tests.{lt-ltb, le-ltb}
+use Rattle.trellis.specs.Trellis.{Trellis}
+use Rattle.trellis.specs.Verdict.{steps, met, lastFit, decided, leastMessages, verdict, roomShort, allowanceSpent}
+use Rattle.trellis.proofs.MetNodes.{met-mono, met-some, lastFit-is, lastFit-none}
+
+-- not even the origin has room
+pub verdict-none : (t : Trellis) (allowance : ℕ) → verdict t 0 allowance ≡ roomShort 0
+unfolding verdict
+verdict-none t allowance =
+    rw (lt-ltb 0 (met t (min (steps t) allowance)) (met-some t (min (steps t) allowance)))
+    (ap roomShort (lastFit-none t 0 (min (steps t) allowance) (met-some t 0)))
+
+-- j steps fit, the next one is wanted and does not
+pub verdict-full : (t : Trellis) (room allowance j : ℕ) → j < steps t → j < allowance → met t j ≤ room → room < met t (suc j) → verdict t room allowance ≡ roomShort j
+unfolding verdict
+verdict-full t room allowance j h k p q =
+    rw (lt-ltb room (met t (min (steps t) allowance)) (omega (arith, met-mono t (suc j) (min (steps t) allowance) (omega arith))))
+    (ap roomShort (lastFit-is t room j (min (steps t) allowance) (omega arith) p q))
+
+-- all allowed steps fit, and the terminal is not yet first
+pub verdict-spent : (t : Trellis) (room allowance : ℕ) → allowance < steps t → met t allowance ≤ room → verdict t room allowance ≡ allowanceSpent allowance
+unfolding verdict
+verdict-spent t room allowance h p =
+    let e : min (steps t) allowance ≡ allowance = omega arith in
+    rw (e, le-ltb room (met t allowance) p, lt-ltb allowance (steps t) h)
+
+-- all steps before the terminal fit and are allowed
+pub verdict-found : (t : Trellis) (room allowance : ℕ) → steps t ≤ allowance → met t (steps t) ≤ room → verdict t room allowance ≡ decided t (leastMessages t)
+unfolding verdict
+verdict-found t room allowance h p =
+    let e : min (steps t) allowance ≡ steps t = omega arith in
+    rw (e, le-ltb room (met t (steps t)) p, le-ltb allowance (steps t) h)
