@@ -3,7 +3,7 @@ ghost use mathlib.Core.Path.{_≡_};
 ghost use Prim.Native.Nat.{_+_, _*_, _^_, _≤_, _<_, min};
 ghost use lib.ListN.{length};
 ghost use Rattle.trellis.specs.Trellis.{node};
-ghost use Rattle.trellis.specs.Search.{rowAt, started, findRow, firstOpen, added, lowered, joined, closed};
+ghost use Rattle.trellis.specs.Search.{rowAt, nodeAt, started, findRow, firstOpen, added, lowered, joined, closed};
 ghost use Rattle.store.specs.Memory.{rowOf, Small, orderWord, restWord, written, rowsOf, Stored, Shows};
 
 // How many states a level of the words has, how many levels, and how many nodes in all.
@@ -111,9 +111,10 @@ pub fn add(work: &mut [u64], n: usize, r: Held)
     put(&mut *work, n, r);
 }
 
-// A cheaper way to the node of row i.
+// A cheaper way to the node of row i, which the row keeps.
 pub fn lower(work: &mut [u64], n: usize, i: usize, r: Held)
     requires { ⌜ Stored (now work) n ⌝ ∗ ⌜ i < n ⌝ ∗ ⌜ Small r ⌝ }
+    requires { ⌜ rowOf r .entry .node ≡ nodeAt (rowsOf (now work) n) i ⌝ }
     ensures { λ _. ⌜ Shows (now (work .entry)) (now (work .exit)) n (lowered (rowsOf (now (work .entry)) n) i (rowOf r)) ⌝ }
 {
     put(&mut *work, i, r);
@@ -129,9 +130,10 @@ pub fn join(work: &mut [u64], n: usize, i: usize, cap: u64, more: u64)
     put(&mut *work, i, r);
 }
 
-// Row i is expanded.
+// Row i, the first open one, is expanded.
 pub fn close(work: &mut [u64], n: usize, i: usize)
     requires { ⌜ Stored (now work) n ⌝ ∗ ⌜ i < n ⌝ }
+    requires { ⌜ i ≡ firstOpen (rowsOf (now work) n) ⌝ }
     ensures { λ _. ⌜ Shows (now (work .entry)) (now (work .exit)) n (closed (rowsOf (now (work .entry)) n) i) ⌝ }
 {
     let mut r = row(&*work, n, i);

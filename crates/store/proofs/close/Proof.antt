@@ -22,7 +22,7 @@ returns c =
     let s = k .before .before .before in
     let e = k .row .ensures .0 in
     rw (p .put .ensures)
-    (set-shows (s .args .work .now) (s .args .n) (s .args .i) _ (s .pre .0) (s .pre .1) (omega (arith, k .row .ensures .1))
+    (set-shows (s .args .work .now) (s .args .n) (s .args .i) _ (s .pre .0) (s .pre .1 .0) (omega (arith, k .row .ensures .1))
     (λ z. record { entry = e z .entry; count = e z .count; parent = e z .parent; input = e z .input; closed = true }))
 
 pub close-spec : {M : Type 1} → statement M

@@ -15,7 +15,7 @@ returns : tie.Need-returns
 returns c =
     let p = c .before .before in
     let s = p .before .before .before in
-    rw (p .put .ensures) (set-shows (s .args .work .now) (s .args .n) (s .args .i) (s .args .r) (s .pre .0) (s .pre .1 .0) (s .pre .1 .1) refl)
+    rw (p .put .ensures) (set-shows (s .args .work .now) (s .args .n) (s .args .i) (s .args .r) (s .pre .0) (s .pre .1 .0) (s .pre .1 .1 .0) refl)
 
 pub lower-spec : {M : Type 1} → statement M
 lower-spec = tie.close (tie.spec put-requires same-length returns)
