@@ -100,3 +100,8 @@ added-shows work n r room small = record {
       (written-here work n r room small));
   kept = length-written work n r;
 }
+
+-- for a search without room: the memory as it is holds no row
+pub none-shows : (work : List ℕ) → Shows work work 0 []
+unfolding rowsOf
+none-shows work = record { stored = record { room = omega arith }; rows = refl; kept = refl }
