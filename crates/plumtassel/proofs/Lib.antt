@@ -1,0 +1,2 @@
+pub mod Encoder
+pub mod Front

@@ -1,0 +1,43 @@
+-- What the helpers of the face make of each answer: the step between an operation's enum and the caller's struct. Not for the reader: no exported
+-- function's contract cites it. Assumes nothing.
+use mathlib.Core.Bool.{cond}
+use Prim.Native.Nat.{ℕ}
+use lib.Dec.{eqb}
+use Rattle.codes.specs.declared.encoder.Encoded.{Encoded}
+use Rattle.codes.specs.declared.encoder.Encoded.the-variants as encoded
+use Rattle.front.specs.Symbols.{zero}
+use Rattle.front.specs.declared.FrontEnd as front
+use Rattle.front.specs.declared.FrontEnd.the-variants.{Gain, Offset, Threshold}
+use Rattle.front.specs.declared.Fronted.{Fronted}
+use Rattle.front.specs.declared.Fronted.the-variants as fronted
+use Rattle.plumtassel.specs.declared.Answer.{Answer}
+use Rattle.plumtassel.specs.declared.FrontEnd.{FrontEnd}
+use Rattle.plumtassel.specs.declared.Report.{Report}
+use Rattle.plumtassel.specs.Face.{refusal}
+
+-- 'A block has N = n(L+m) symbols, at most 864.'
+abbrev pub longestBlock : ℕ
+longestBlock = 864
+
+abbrev pub encoderAnswer : Encoded → Answer
+encoderAnswer (encoded.Done n) = record { number = 0; metric = 0; steps = 0; length = n }
+encoderAnswer encoded.BadCode = refusal 1
+encoderAnswer encoded.BadSize = refusal 2
+encoderAnswer encoded.Malformed = refusal 6
+
+-- the front end of a form; a gain of zero stands for a form that there is none of
+unfoldable pub choice : FrontEnd → front.FrontEnd
+choice f =
+    cond (eqb (f .form) 0) (Gain (f .gain))
+    (cond (eqb (f .form) 1) (Offset (f .offset) (f .gain))
+    (cond (eqb (f .form) 2) (Threshold (f .threshold))
+    (Gain zero)))
+
+abbrev pub refusedReading : ℕ → ℕ → Report
+refusedReading number index = record { number = number; count = 0; index = index; lowest = zero; highest = zero }
+
+abbrev pub frontReport : Fronted → Report
+frontReport (fronted.Done count report) = record { number = 0; count = count; index = 0; lowest = report .lowest; highest = report .highest }
+frontReport fronted.Sizes = refusedReading 2 0
+frontReport fronted.Malformed = refusedReading 6 0
+frontReport (fronted.NotFinite index) = refusedReading 8 index
