@@ -1,0 +1,4 @@
+pub mod Rounding
+pub mod Numbers
+pub mod Blocks
+pub mod Settled

@@ -1,0 +1,36 @@
+-- "The product goes to the nearest whole number, halves away from zero, held within -127 to 127 (an infinite product goes to the end of its sign)."
+-- "The meaning of rounding is stated over the float's bits as whole numbers."
+-- A single-precision float is 32 bits. Read as one whole number they are a sign, worth 2 ^ 31, a field of 8 bits for the exponent, each step of it worth
+-- 2 ^ 23, and 23 digits. To be believed, in this order. Definitions only. Assumes nothing.
+use Prim.Native.Nat.{ℕ, _+_, _*_, _/_, _%_, _^_, min, max}
+use mathlib.Core.Bool.{Bool, cond}
+use lib.Dec.{leb, eqb}
+use lib.IntN.{ℤ, pos, negℤ}
+use Rattle.front.specs.Limits.{furthest}
+
+-- the sign: set in a float below zero, and in -0
+abbrev pub negative : ℕ → Bool
+negative bits = leb (2 ^ 31) bits
+
+abbrev pub field : ℕ → ℕ
+field bits = bits / 2 ^ 23 % 2 ^ 8
+
+-- The digits stand behind a leading one. Field 0 has none, and the exponent of field 1: there lie the two zeros and the subnormals.
+abbrev pub significand : ℕ → ℕ
+significand bits = cond (eqb (field bits) 0) (bits % 2 ^ 23) (2 ^ 23 + bits % 2 ^ 23)
+
+abbrev pub exponent : ℕ → ℕ
+exponent bits = max 1 (field bits)
+
+-- The float's distance from zero is this many parts, of which 2 ^ 150 make 1. An infinity, field 255 with no digits, reads as 2 ^ 128, past every float.
+abbrev pub parts : ℕ → ℕ
+parts bits = significand bits * 2 ^ exponent bits
+
+-- The nearest whole number, halves upwards: a half is added, and what is left of a whole is dropped. (A half is 2 ^ 150 of 2 ^ 151, as is twice the parts.)
+unfoldable pub nearest : ℕ → ℕ
+nearest bits = (2 * parts bits + 2 ^ 150) / 2 ^ 151
+
+-- Halves away from zero, since the sign comes last; held within both ends.
+unfoldable pub rounded : ℕ → ℤ
+unfolding nearest
+rounded bits = cond (negative bits) (negℤ (pos (min furthest (nearest bits)))) (pos (min furthest (nearest bits)))
