@@ -1,2 +1,7 @@
 //! A second program, written from document 01: what the proved code is compared with.
+pub mod brute;
+pub mod code;
+pub mod decode;
 pub mod front;
+pub mod sheet;
+pub mod trellis;
