@@ -60,6 +60,16 @@ fn reachable(block: &Block) -> Vec<BTreeMap<u32, Reached>> {
     levels
 }
 
+/// The reachable nodes of cost at most some metric, in the order of a sheet.
+pub fn cheap(block: &Block, metric: u64) -> Vec<(Node, u64)> {
+    let mut nodes = Vec::new();
+    for (level, states) in reachable(block).iter().enumerate() {
+        nodes.extend(states.iter().map(|(&state, reached)| (Node { level, state }, reached.cost)));
+    }
+    nodes.retain(|&(_, cost)| cost <= metric);
+    nodes
+}
+
 /// D(0), D(1), ..., D(j) for the first j nodes of an order.
 fn discovered(block: &Block, first: &[(u64, Node)]) -> Vec<usize> {
     let mut nodes = HashSet::from([ORIGIN]);
@@ -115,16 +125,13 @@ pub fn literal(block: &Block, room: usize, allowance: u32) -> Verdict {
         return Verdict::Allowance;
     }
     let Reached { cost: metric, paths: sharing } = levels[terminal.level][&terminal.state];
-    let mut listed: Vec<_> =
-        order.iter().filter(|&&(cost, _)| cost <= metric).map(|&(cost, node)| (node, cost)).collect();
-    listed.sort();
     Verdict::Known(Known {
         metric,
         steps: steps as u32,
         discovered: counts[steps],
         sharing,
         message: traced(block, &levels),
-        listed,
+        listed: cheap(block, metric),
     })
 }
 

@@ -1,7 +1,10 @@
 //! A second program, written from document 01: what the proved code is compared with.
+pub mod blocks;
 pub mod brute;
 pub mod code;
+pub mod damage;
 pub mod decode;
 pub mod front;
+pub mod random;
 pub mod sheet;
 pub mod trellis;

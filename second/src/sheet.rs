@@ -24,6 +24,16 @@ pub struct Entry {
     pub cost: u64,
 }
 
+impl Entry {
+    pub fn new(node: Node, cost: u64) -> Entry {
+        Entry { level: node.level as u64, state: u64::from(node.state), cost }
+    }
+
+    pub fn node(&self) -> Node {
+        Node { level: self.level as usize, state: self.state as u32 }
+    }
+}
+
 fn put(bytes: &mut Vec<u8>, number: u64, width: usize) {
     bytes.extend(&number.to_le_bytes()[..width]);
 }
@@ -35,17 +45,12 @@ fn packed(message: &[u8]) -> Vec<u8> {
 
 impl Sheet {
     pub fn honest(block: &Block, known: &Known) -> Sheet {
-        let entry = |&(node, cost): &(Node, u64)| Entry {
-            level: node.level as u64,
-            state: u64::from(node.state),
-            cost,
-        };
         Sheet {
             kind: KIND,
             length: block.length as u64,
             metric: known.metric,
             message: known.message.clone(),
-            entries: known.listed.iter().map(entry).collect(),
+            entries: known.listed.iter().map(|&(node, cost)| Entry::new(node, cost)).collect(),
         }
     }
 
@@ -112,7 +117,8 @@ impl Sheet {
 
     /// Conditions A to D. Costs are added in 64 bits: a sheet's may be the largest of 32.
     pub fn carries(&self, block: &Block) -> bool {
-        let listed: HashMap<Node, u64> = self.entries.iter().map(|entry| (node(entry), entry.cost)).collect();
+        let listed: HashMap<Node, u64> =
+            self.entries.iter().map(|entry| (entry.node(), entry.cost)).collect();
         let path = path(block, &self.message);
         let origin_is_free = listed.get(&ORIGIN) == Some(&0);
         let successors_are_listed = listed.iter().all(|(&from, cost)| {
@@ -138,10 +144,6 @@ fn take(rest: &mut &[u8], width: usize) -> Option<u64> {
     let (field, behind) = rest.split_at_checked(width)?;
     *rest = behind;
     Some(field.iter().rev().fold(0, |number, &byte| number * 256 + u64::from(byte)))
-}
-
-fn node(entry: &Entry) -> Node {
-    Node { level: entry.level as usize, state: entry.state as u32 }
 }
 
 /// The nodes of a message's path, each with the metric so far.
