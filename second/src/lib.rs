@@ -1,10 +1,13 @@
 //! A second program, written from document 01: what the proved code is compared with.
 pub mod blocks;
 pub mod brute;
+pub mod cases;
 pub mod code;
 pub mod damage;
 pub mod decode;
+pub mod draw;
 pub mod front;
 pub mod random;
 pub mod sheet;
+pub mod stored;
 pub mod trellis;
