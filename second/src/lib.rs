@@ -6,8 +6,11 @@ pub mod code;
 pub mod damage;
 pub mod decode;
 pub mod draw;
+#[cfg(feature = "face")]
+pub mod face;
 pub mod front;
 pub mod random;
 pub mod sheet;
+pub mod shrink;
 pub mod stored;
 pub mod trellis;
