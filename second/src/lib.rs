@@ -9,6 +9,8 @@ pub mod draw;
 #[cfg(feature = "face")]
 pub mod face;
 pub mod front;
+pub mod linear;
+pub mod osmocom;
 pub mod random;
 pub mod sheet;
 pub mod shrink;

@@ -75,10 +75,10 @@ fn own(seed: u64, stage: usize, index: u64) -> Random {
 
 /// Large rooms now and then; they take much longer, in a plain search by the square.
 fn limits(random: &mut Random) -> Limits {
-    let room = match random.below(200) {
+    let room = match random.below(400) {
         0 => 4096,
-        1..20 => 600,
-        _ => 100,
+        1..20 => 1000,
+        _ => 250,
     };
     Limits { room, words: 12_300, entries: if random.one_in(50) { 4096 } else { 40 }, form: 3 }
 }
