@@ -1,4 +1,5 @@
 //! A second program, written from document 01: what the proved code is compared with.
+pub mod agree;
 pub mod blocks;
 pub mod brute;
 pub mod cases;

@@ -158,13 +158,4 @@ mod tests {
             assert_eq!(Case::unpasted(&case.pasted()).as_ref(), Some(case));
         }
     }
-
-    #[test]
-    fn both_searches_answer_alike() {
-        for case in stored(4).iter().take(300) {
-            let large = matches!(case, Case::Decode { asked, .. } | Case::DecodeSheet { asked, .. }
-                if asked.code.memory > 8 && asked.length > 12);
-            assert!(large || case.outcome(ordered) == case.outcome(literal), "{}", case.pasted());
-        }
-    }
 }
