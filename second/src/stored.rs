@@ -152,6 +152,15 @@ mod tests {
     }
 
     #[test]
+    fn the_form_s_own_example() {
+        let four = &blocks_to_try()[3];
+        let page = include_str!("../FORMAT.md");
+        let shown: Vec<&str> = page.lines().filter_map(|line| line.strip_prefix("    ")).collect();
+        assert_eq!(shown[..3].concat().replace(' ', ""), four.pasted());
+        assert_eq!(shown[3], four.answer_line(literal));
+    }
+
+    #[test]
     fn records_come_back() {
         for case in stored(3).iter().take(500) {
             assert_eq!(Case::read(&case.record()).as_ref(), Some(case));
