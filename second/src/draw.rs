@@ -15,8 +15,8 @@ pub struct Limits {
     pub words: u32,
     /// The most entries of a sheet that is checked.
     pub entries: usize,
-    /// The highest form of a front end.
-    pub form: u64,
+    /// Whether a front end may have a form that is none of the three.
+    pub other_forms: bool,
 }
 
 /// How much longer than it must be an output buffer is.
@@ -262,7 +262,7 @@ pub fn fronting(random: &mut Random, limits: &Limits) -> Case {
         0 => front_end.gain = random.pick(&ENDLESS),
         1 => front_end.gain = random.pick(&[0.0, -0.0, -1.0, -f32::from_bits(1)]).to_bits(),
         2 => (front_end.offset, front_end.threshold) = (random.pick(&ENDLESS), random.pick(&ENDLESS)),
-        3 if limits.form > 2 => front_end.form = random.pick(&[3, 4, 256, u32::MAX]),
+        3 if limits.other_forms => front_end.form = random.pick(&[3, 4, 256, u32::MAX]),
         _ => {}
     }
     let count = match random.below(60) {

@@ -9,7 +9,7 @@ use crate::sheet::Sheet;
 use crate::trellis::Block;
 
 /// A program's buffers stay within 64 KiB: so does the working memory, and with it the room.
-pub const LIMITS: Limits = Limits { room: 2730, words: 8192, entries: 300, form: 2 };
+pub const LIMITS: Limits = Limits { room: 2730, words: 8192, entries: 300, other_forms: false };
 
 const FOUR: [i8; 6] = [3, -5, -2, 1, -4, -6];
 

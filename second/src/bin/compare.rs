@@ -1,5 +1,6 @@
 //! Fresh random cases through the C face and through the second program: a million decodes, a million checks of damaged sheets,
-//! every bit flip of a hundred honest sheets, and encodings and readings beside them.
+//! every bit flip of a hundred honest sheets, and encodings and readings beside them. The stored set, with its cases that once
+//! differed, goes first.
 //!
 //! `compare [SEED [PERCENT]]`: all of it, or a part of each amount. Without a seed the clock gives one; it is printed.
 //! `compare SEED STAGE INDEX`: the one case that a progress or crash line names, printed before it is run.
@@ -12,15 +13,23 @@ use second::draw::{checking, decoding, encoding, fronting, known_block, Limits};
 use second::face::{self, Face};
 use second::random::Random;
 use second::shrink::shrunk;
+use second::stored::stored;
 use std::io::Write;
 use std::process::exit;
 use std::sync::atomic::{AtomicU64, AtomicUsize, Ordering::Relaxed};
 use std::time::{Duration, Instant, SystemTime};
 
-const STAGES: [(&str, u64); 5] =
-    [("decode", 1_000_000), ("check", 1_000_000), ("flip", 100), ("encode", 200_000), ("front", 200_000)];
+/// The stored set has as many cases as it has.
+const STAGES: [(&str, u64); 6] = [
+    ("stored", 0),
+    ("decode", 1_000_000),
+    ("check", 1_000_000),
+    ("flip", 100),
+    ("encode", 200_000),
+    ("front", 200_000),
+];
 
-const FLIPS: usize = 2;
+const FLIPS: usize = 3;
 
 /// For the crash line, which can look at nothing else.
 static SEED: AtomicU64 = AtomicU64::new(0);
@@ -80,7 +89,7 @@ fn limits(random: &mut Random) -> Limits {
         1..20 => 1000,
         _ => 250,
     };
-    Limits { room, words: 12_300, entries: if random.one_in(50) { 4096 } else { 40 }, form: 3 }
+    Limits { room, words: 12_300, entries: if random.one_in(50) { 4096 } else { 40 }, other_forms: true }
 }
 
 /// The index of a flip: the sheet's number, then 0 for the sheet as it is or the bit's number from 1.
@@ -114,13 +123,14 @@ fn drawn(seed: u64, stage: usize, index: u64) -> Case {
     let random = &mut own(seed, stage, index);
     let limits = limits(random);
     match stage {
-        0 => {
+        0 => stored(1).swap_remove(index as usize),
+        1 => {
             let with_sheet = random.one_in(3);
             decoding(random, &limits, with_sheet)
         }
-        1 => checking(random, &limits),
+        2 => checking(random, &limits),
         FLIPS => flipped(&honest(seed, index / BITS), index % BITS),
-        3 => encoding(random),
+        4 => encoding(random),
         _ => fronting(random, &limits),
     }
 }
@@ -180,7 +190,10 @@ fn run(face: &mut Face, seed: u64, percent: u64) {
     for row in [0, 1, 2, 3, 4, 5, 1 << 32, usize::MAX] {
         assert_eq!(face::house(row), code::house(row), "house row {row}");
     }
-    for (stage, (_, amount)) in STAGES.iter().enumerate() {
+    for (index, case) in stored(1).iter().enumerate() {
+        compare(face, case, 0, index as u64);
+    }
+    for (stage, (_, amount)) in STAGES.iter().enumerate().skip(1) {
         let amount = (amount * percent / 100).max(1);
         let mut numbers = [0u64; 10];
         for index in 0..amount {
