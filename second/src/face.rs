@@ -40,6 +40,10 @@ pub struct FaceReport {
     highest: f32,
 }
 
+/// As the C header lays them out.
+const _: () = assert!(size_of::<FaceCode>() == 24 && size_of::<FaceAnswer>() == 16);
+const _: () = assert!(size_of::<FaceFrontEnd>() == 16 && size_of::<FaceReport>() == 20);
+
 #[link(name = "plumtassel", kind = "static")]
 extern "C" {
     fn plumtassel_house(row: usize) -> FaceCode;
