@@ -1,4 +1,4 @@
--- All numbers of the search fit: a safe row's node is one of the trellis, and its cost is that of a path, so below 2^22; and the
+-- All numbers of the search fit: a safe row's node is one of the trellis, and its cost is that of a path, so less than the heaviest block weighs; and the
 -- branches of such a node are priced within the block. Assumes nothing.
 use mathlib.Core.Path.{sym}
 use mathlib.Core.List.{List}

@@ -1,3 +1,7 @@
 pub mod Fans
 pub mod Fits
 pub mod Runs
+pub mod Tracing
+pub mod Halting
+pub mod Sizes
+pub mod Decodings

@@ -1,10 +1,11 @@
 -- What the functions of the search ask of each other, and what they make of the rows that the memory shows. Not believed: no public
 -- contract cites it. Assumes nothing.
 use mathlib.Core.Path.{_≡_}
-use mathlib.Core.Bool.{Bool, true, false}
+use mathlib.Core.Bool.{true, false}
 use mathlib.Core.List.{List, _++_, reverse}
 use Prim.Native.Nat.{ℕ, zero, suc, _+_, _-_, _*_, _^_, _≤_, _<_, min}
 use lib.ListN.{length, drop}
+use Rattle.codes.specs.Limits.{longestMessage}
 use Rattle.codes.specs.Codes.{lawful, blockLength}
 use Rattle.codes.specs.declared.table.Code.{Code}
 use Rattle.trellis.specs.Trellis.{Trellis, Path}
@@ -13,8 +14,8 @@ use Rattle.trellis.specs.Sheet.{onto}
 use Rattle.trellis.specs.Search.{Row, rowAt, Tried, Outcome, found, full, spent, Ended}
 use Rattle.blocks.specs.Blocks.{trellisOf, totalWeight}
 use Rattle.blocks.specs.Packed.{seenIn}
-use Rattle.store.specs.Memory.{rowsOf, Stored, Shows}
-use Rattle.search.specs.Limits.{largestRoom, wordsPerNode}
+use Rattle.store.specs.Memory.{Stored, Shows}
+use Rattle.search.specs.Limits.{largestRoom, wordsPerNode, heaviest}
 use Rattle.search.specs.declared.step.Tally.{Tally}
 use Rattle.search.specs.declared.run.Halt.{Halt}
 use Rattle.search.specs.declared.run.Reached.{Reached}
@@ -30,13 +31,20 @@ trellisIn c l seen = trellisOf c l (seenIn seen)
 
 -- ---- what is asked
 
--- a code, an L and a seen block that were tested: all numbers of the search fit their words
-pub record Searchable (c : Code) (l : ℕ) (seen : List ℕ) : Type 0 where
+-- a code, an L and a seen block that were tested
+pub record Sized (c : Code) (l : ℕ) (seen : List ℕ) : Type 0 where
   pub code : lawful c ≡ true
-  pub long : l ≤ 200
+  pub long : l ≤ longestMessage
   pub full : c .outputs ≤ length (c .generators)
   pub block : length seen ≡ blockLength c l
-  pub light : totalWeight (seenIn seen) < 2 ^ 22
+
+-- and so all numbers of the search fit their words
+pub record Searchable (c : Code) (l : ℕ) (seen : List ℕ) : Type 0 where
+  pub code : lawful c ≡ true
+  pub long : l ≤ longestMessage
+  pub full : c .outputs ≤ length (c .generators)
+  pub block : length seen ≡ blockLength c l
+  pub light : totalWeight (seenIn seen) < heaviest
 
 -- the memory holds n rows, and has words for as many as the room says
 pub record Roomy (work : List ℕ) (n room : ℕ) : Type 0 where
@@ -55,7 +63,7 @@ pub record Lent (l room : ℕ) (work message : List ℕ) : Type 0 where
 pub record Fitting (c : Code) (l : ℕ) (e : Entry) : Type 0 where
   pub level : e .node .level ≤ l + c .memory
   pub state : e .node .state < 2 ^ (c .memory)
-  pub cost : e .cost < 2 ^ 22
+  pub cost : e .cost < heaviest
 
 -- ---- what is made
 
