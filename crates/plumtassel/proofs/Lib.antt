@@ -1,2 +1,3 @@
 pub mod Encoder
+pub mod Decoder
 pub mod Front

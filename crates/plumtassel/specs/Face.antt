@@ -4,6 +4,7 @@ use mathlib.Core.List.{List}
 use Prim.Native.Nat.{ℕ}
 use Rattle.codes.specs.Encoding.{Encoding}
 use Rattle.codes.specs.declared.table.Code as codes
+use Rattle.search.specs.Decoding.{Decoding}
 use Rattle.plumtassel.specs.declared.Code.{Code}
 use Rattle.plumtassel.specs.declared.Answer.{Answer}
 
@@ -21,3 +22,7 @@ refusal number = record { number = number; metric = 0; steps = 0; length = 0 }
 -- what the encoder hands back, and its buffer: the length is N
 abbrev pub encoded : Encoding → Answer × List ℕ
 encoded e = (record { number = e .number; metric = 0; steps = 0; length = e .symbols }, e .out)
+
+-- what the decoder hands back, and the message buffer
+abbrev pub decoded : Decoding → Answer × List ℕ
+decoded d = (record { number = d .number; metric = d .metric; steps = d .steps; length = 0 }, d .message)

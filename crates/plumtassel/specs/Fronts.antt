@@ -1,7 +1,6 @@
 -- What the front end's struct means, and how its report is handed back. Believed, after front's Answers. Assumes nothing.
 use mathlib.Core.List.{List}
 use mathlib.Core.Bool.{cond}
-use Prim.Native.Nat.{ℕ}
 use lib.Dec.{eqb}
 use lib.IntN.{ℤ}
 use lib.ListN.{length}

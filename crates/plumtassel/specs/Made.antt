@@ -10,6 +10,8 @@ use Rattle.front.specs.declared.FrontEnd as front
 use Rattle.front.specs.declared.FrontEnd.the-variants.{Gain, Offset, Threshold}
 use Rattle.front.specs.declared.Fronted.{Fronted}
 use Rattle.front.specs.declared.Fronted.the-variants as fronted
+use Rattle.search.specs.declared.decoder.Decoded.{Decoded}
+use Rattle.search.specs.declared.decoder.Decoded.the-variants as decoded
 use Rattle.plumtassel.specs.declared.Answer.{Answer}
 use Rattle.plumtassel.specs.declared.FrontEnd.{FrontEnd}
 use Rattle.plumtassel.specs.declared.Report.{Report}
@@ -24,6 +26,17 @@ encoderAnswer (encoded.Done n) = record { number = 0; metric = 0; steps = 0; len
 encoderAnswer encoded.BadCode = refusal 1
 encoderAnswer encoded.BadSize = refusal 2
 encoderAnswer encoded.Malformed = refusal 6
+
+abbrev pub searchAnswer : ℕ → ℕ → ℕ → Answer
+searchAnswer number metric steps = record { number = number; metric = metric; steps = steps; length = 0 }
+
+abbrev pub decoderAnswer : Decoded → Answer
+decoderAnswer (decoded.Done metric steps) = searchAnswer 0 metric steps
+decoderAnswer decoded.BadCode = refusal 1
+decoderAnswer decoded.BadSize = refusal 2
+decoderAnswer (decoded.NoRoom steps) = searchAnswer 3 0 steps
+decoderAnswer (decoded.NoAllowance steps) = searchAnswer 4 0 steps
+decoderAnswer (decoded.Tied metric steps) = searchAnswer 5 metric steps
 
 -- the front end of a form; a gain of zero stands for a form that there is none of
 unfoldable pub choice : FrontEnd → front.FrontEnd

@@ -5,14 +5,17 @@ use codes::encoder::encode;
 use codes::table::house;
 use front::Fronted;
 use front::front;
+use search::decoder::Decoded;
+use search::decoder::decode;
 ghost use mathlib.Core.Path.{_≡_};
 ghost use Prim.Native.Nat.{_≤_};
 ghost use Rattle.codes.specs.Codes.{houseCode};
 ghost use Rattle.codes.specs.Encoding.{encoding};
 ghost use Rattle.front.specs.Limits.{mostReadings};
-ghost use Rattle.plumtassel.specs.Face.{faceCode, codeOf, refusal, encoded};
+ghost use Rattle.search.specs.Decoding.{decoding};
+ghost use Rattle.plumtassel.specs.Face.{faceCode, codeOf, refusal, encoded, decoded};
 ghost use Rattle.plumtassel.specs.Fronts.{fronting, reported};
-ghost use Rattle.plumtassel.specs.Made.{longestBlock, encoderAnswer, choice, refusedReading, frontReport};
+ghost use Rattle.plumtassel.specs.Made.{longestBlock, encoderAnswer, searchAnswer, decoderAnswer, choice, refusedReading, frontReport};
 
 // n outputs, memory m, and room for four generators, of which the first n count.
 #[repr(C)]
@@ -74,6 +77,32 @@ pub extern "C" fn plumtassel_encode(code: Code, message: &[u8], out: &mut [u8]) 
     encoder_answer(answer)
 }
 
+// Decodes a block: the message that alone has the least metric, or the refusal that node order says. Of the working memory only its size
+// counts.
+#[no_mangle]
+pub extern "C" fn plumtassel_decode(
+    code: Code,
+    length: usize,
+    symbols: &[i8],
+    room: usize,
+    allowance: u32,
+    work: &mut [u64],
+    message: &mut [u8],
+) -> Answer
+    ensures { λ r. do ⌜ (r, now (message .exit)) ≡ decoded (decoding (codeOf code) length (now (symbols .entry)) room allowance (← ⟦work.len()⟧ .entry) (now (message .entry))) ⌝ }
+{
+    let answer = decode(
+        opened(code),
+        length,
+        symbols,
+        room,
+        allowance,
+        work,
+        message,
+    );
+    decoder_answer(answer)
+}
+
 // A block of readings to symbols, one each, with the report.
 #[no_mangle]
 pub extern "C" fn plumtassel_front(
@@ -114,6 +143,32 @@ fn encoder_answer(answer: Encoded) -> Answer
         Encoded::BadCode => refused(1),
         Encoded::BadSize => refused(2),
         Encoded::Malformed => refused(6),
+    }
+}
+
+// The answer of `decode` as the caller takes it.
+fn decoder_answer(answer: Decoded) -> Answer
+    ensures { λ r. ⌜ r ≡ decoderAnswer answer ⌝ }
+{
+    match answer {
+        Decoded::Done { metric, steps } => answered(0, metric, steps),
+        Decoded::BadCode => refused(1),
+        Decoded::BadSize => refused(2),
+        Decoded::NoRoom { steps } => answered(3, 0, steps),
+        Decoded::NoAllowance { steps } => answered(4, 0, steps),
+        Decoded::Tied { metric, steps } => answered(5, metric, steps),
+    }
+}
+
+// An answer with a metric and steps.
+fn answered(number: u32, metric: u32, steps: u32) -> Answer
+    ensures { λ r. ⌜ r ≡ searchAnswer number metric steps ⌝ }
+{
+    Answer {
+        number,
+        metric,
+        steps,
+        length: 0,
     }
 }
 

@@ -1,6 +1,5 @@
 -- `chosen` meets its contract: each arm is a row of `choice`. Assumes nothing.
-use mathlib.Core.Path.{_≡_}
-use borrow.Author.Tests.{eq-eqb, ne-eqb}
+use borrow.Author.Tests.{ne-eqb}
 use Rattle.plumtassel.specs.Made.{choice}
 use Rattle.plumtassel.proofs.chosen.Statement.{statement}
 use Rattle.plumtassel.proofs.chosen.Tie as tie

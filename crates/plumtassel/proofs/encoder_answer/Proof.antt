@@ -1,9 +1,8 @@
 -- `encoder_answer` meets its contract, case by case. N fits, as its caller knows. Assumes nothing.
-use mathlib.Core.Path.{_≡_, sym, ap, _∙_}
-use Prim.Native.Nat.{ℕ, _≤_}
+use mathlib.Core.Path.{sym, ap, _∙_}
+use Prim.Native.Nat.{_≤_}
 use native.Mathlib.Omega.{arith}
 use borrow.Author.Needs.{needs}
-use Rattle.plumtassel.specs.declared.Answer.{Answer}
 use Rattle.plumtassel.specs.Made.{encoderAnswer, longestBlock}
 use Rattle.plumtassel.proofs.encoder_answer.Statement.{statement}
 use Rattle.plumtassel.proofs.encoder_answer.Tie as tie

@@ -1,8 +1,7 @@
 -- `plumtassel_encode` meets its contract: the answer of `encode`, said in the caller's struct. Assumes nothing.
-use mathlib.Core.Path.{_≡_, sym, ap, ap₂, _∙_}
+use mathlib.Core.Path.{_≡_, sym, ap, _∙_}
 use mathlib.Core.List.{List}
-use Prim.Native.Nat.{ℕ, _≤_}
-use native.Mathlib.Omega.{arith}
+use Prim.Native.Nat.{ℕ}
 use borrow.Author.Needs.{needs}
 use Rattle.codes.specs.Encoding.{encoding}
 use Rattle.codes.specs.declared.table.Code as codes

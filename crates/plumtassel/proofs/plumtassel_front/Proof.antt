@@ -6,7 +6,7 @@ use borrow.Author.Needs.{needs}
 use Rattle.front.specs.Answers.{fronted}
 use Rattle.front.specs.declared.FrontEnd as front
 use Rattle.plumtassel.specs.declared.Report.{Report}
-use Rattle.plumtassel.specs.Fronts.{fronting, reported}
+use Rattle.plumtassel.specs.Fronts.{reported}
 use Rattle.plumtassel.specs.Made.{choice, frontReport}
 use Rattle.plumtassel.proofs.Front.{front-told, choice-fronted, fronted-small}
 use Rattle.plumtassel.proofs.plumtassel_front.Statement.{statement}
