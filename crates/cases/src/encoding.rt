@@ -1,4 +1,5 @@
 // The blocks to try that concern the encoder. A buffer is filled with 9s before each call, so that what is untouched shows.
+use crate::lent::bytes;
 use codes::encoder::Encoded;
 use codes::encoder::encode;
 use codes::table::Code;
@@ -48,7 +49,7 @@ pub fn refused() {
 }
 
 // The code with the most outputs and the most memory.
-fn wide() -> Code {
+pub fn wide() -> Code {
     Code {
         outputs: 4,
         memory: 16,
@@ -66,7 +67,7 @@ fn code(outputs: u32, memory: u32, one: u32, two: u32) -> Code {
 
 // One case, with a buffer of the room's size.
 fn line(name: &[u8], code: Code, message: &[u8], room: usize) {
-    let mut out = [9u8; 1024];
+    let mut out = bytes();
     if room <= 1024 {
         text(name);
         tried(code, message, &mut out[..room]);
@@ -75,6 +76,7 @@ fn line(name: &[u8], code: Code, message: &[u8], room: usize) {
 
 // What goes in, the answer, and the buffer as it is then.
 fn tried(code: Code, message: &[u8], out: &mut [u8]) {
+    text(b"encode ");
     describe(code);
     text(b" message ");
     digits(message, 8);
@@ -83,9 +85,9 @@ fn tried(code: Code, message: &[u8], out: &mut [u8]) {
     text(b"\n");
 }
 
-fn describe(code: Code) {
+pub fn describe(code: Code) {
     let generators = code.generators;
-    text(b"encode n=");
+    text(b"n=");
     word(code.outputs);
     text(b" m=");
     word(code.memory);
