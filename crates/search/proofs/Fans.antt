@@ -3,12 +3,12 @@
 use mathlib.Core.Path.{_≡_, sym, ap, _∙_, subst}
 use mathlib.Core.List.{List}
 use mathlib.Core.Bool.{true, false}
-use Prim.Native.Nat.{ℕ, zero, suc, _+_, _-_, _≤_, _<_}
+use Prim.Native.Nat.{ℕ, suc, _+_, _-_, _≤_, _<_}
 use native.Mathlib.Numerals.{add-one}
 use native.Mathlib.Omega.{arith}
 use lib.ListN.{length}
 use Rattle.trellis.specs.Trellis.{Trellis, allowed}
-use Rattle.trellis.specs.Search.{Row, nodeAt, Tried, relax, fan}
+use Rattle.trellis.specs.Search.{Row, nodeAt, relax, fan}
 use Rattle.trellis.proofs.Expand.{fan-full, fan-on}
 use Rattle.trellis.proofs.Safe.{Safe, Grown, safe-relax}
 

@@ -5,3 +5,4 @@ pub mod Tracing
 pub mod Halting
 pub mod Sizes
 pub mod Decodings
+pub mod Answers

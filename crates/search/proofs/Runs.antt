@@ -9,7 +9,7 @@ use native.Mathlib.Omega.{arith}
 use lib.ListN.{length}
 use Rattle.trellis.specs.Trellis.{Trellis}
 use Rattle.trellis.specs.Lawful.{Lawful}
-use Rattle.trellis.specs.Search.{Row, firstOpen, started, Ended, full, spent, arrived, run, searched}
+use Rattle.trellis.specs.Search.{Row, firstOpen, started, full, spent, arrived, run, searched}
 use Rattle.trellis.proofs.Between.{Between, started-between}
 use Rattle.trellis.proofs.Run.{Arrived, after, inside, step-going, run-found, run-spent, run-full, run-on}
 use Rattle.trellis.proofs.Safe.{Safe, safe-started, safe-expand}

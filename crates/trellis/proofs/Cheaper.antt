@@ -2,7 +2,7 @@
 -- trellis whose tail closes every path. So the search's argument goes by what a branch brings (Order, Ranked) and not by the
 -- successor's own cost. Assumes nothing.
 use mathlib.Core.Path.{_≡_, refl}
-use mathlib.Core.List.{_∷_, [], map, flatMap}
+use mathlib.Core.List.{_∷_, [], flatMap}
 use mathlib.Core.Bool.{true, cond}
 use Prim.Native.Nat.{_*_}
 use lib.Dec.{eqb}

@@ -26,7 +26,7 @@ use Rattle.trellis.proofs.Trace.{trace-attains}
 use Rattle.trellis.proofs.Between.{Between, Next, between-next}
 
 -- a list of one
-one : {A : Type 0} (l : List A) {a : A} → a ∈ l → length l ≤ 1 → l ≡ a ∷ []
+pub one : {A : Type 0} (l : List A) {a : A} → a ∈ l → length l ≤ 1 → l ≡ a ∷ []
 one (x ∷ []) m h = ap (λ (y : _). y ∷ []) (sym (singleton-out m))
 one (x ∷ y ∷ l) m h = absurd (omega arith)
 

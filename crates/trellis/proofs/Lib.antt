@@ -29,3 +29,4 @@ pub mod Run
 pub mod Searched
 pub mod Cheaper
 pub mod Safe
+pub mod Answered

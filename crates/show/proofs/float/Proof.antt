@@ -1,6 +1,6 @@
 -- `front_cases::print::float` is safe: a float that equals itself is no NaN, so it has bits. Assumes nothing.
 use mathlib.Core.Path.{_≡_}
-use mathlib.Core.Bool.{true, false, not, true≢false}
+use mathlib.Core.Bool.{false, not, true≢false}
 use borrow.Author.Needs.{needs}
 use lib.Dec.{T}
 use lib.Ieee.{Float, nan, inf, fin, ne, isNan}

@@ -53,7 +53,7 @@ same-length : tie.Need-same-length
 same-length c = halted (c .before) .run .kept .1 .1 .1 .1 .1 .0
 
 returns : tie.Need-returns
-returns c = terminal (c .before) .tied _ (c .if1 .taken)
+returns c = terminal (c .before) .tied _ (omega (arith, c .if1 .taken))
 
 cast-last : tie.Need-cast-last
 cast-last c = omega (arith, c .struct-known .given)

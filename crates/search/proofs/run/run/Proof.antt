@@ -2,21 +2,20 @@
 use borrow.Author.Needs.{needs}
 use mathlib.Core.Path.{_≡_, refl, sym, ap, _∙_, subst}
 use mathlib.Core.List.{List}
-use mathlib.Core.Bool.{true, false}
-use Prim.Native.Nat.{ℕ, _+_, _-_, _*_, _≤_, _<_}
+use Prim.Native.Nat.{ℕ, _-_, _≤_, _<_}
 use native.Mathlib.Omega.{arith}
 use lib.Dec.{T}
 use lib.ListN.{length}
 use Rattle.codes.proofs.Rules.{lawful-out}
 use Rattle.trellis.specs.Trellis.{Trellis, node, same, terminal}
 use Rattle.trellis.specs.Lawful.{Lawful}
-use Rattle.trellis.specs.Search.{Row, rowAt, nodeAt, firstOpen, started, Ended, found, arrived, expand, searched}
+use Rattle.trellis.specs.Search.{Row, rowAt, nodeAt, firstOpen, Ended, found, arrived, expand}
 use Rattle.trellis.proofs.Run.{Arrived, after}
-use Rattle.store.specs.Memory.{rowOf, rowsOf, Stored, Shows}
+use Rattle.store.specs.Memory.{rowOf, rowsOf, Shows}
 use Rattle.store.proofs.Rows.{length-rowsOf, none-shows}
 use Rattle.blocks.specs.Packed.{seenIn}
 use Rattle.blocks.proofs.Closing.{trellis-lawful}
-use Rattle.search.specs.Work.{cap, trellisIn, outcomeOf, Searchable, Roomy, Tries, Halts}
+use Rattle.search.specs.Work.{cap, trellisIn, outcomeOf, Roomy, Tries, Halts}
 use Rattle.search.specs.declared.run.Halt.{Halt}
 use Rattle.search.proofs.Runs.{Running, searched-none, running-cast, running-start, running-open, running-found, running-spent, running-full, running-next}
 use Rattle.search.proofs.run.run.Statement.{statement}

@@ -2,12 +2,10 @@
 use borrow.Author.Needs.{needs}
 use mathlib.Core.Path.{_≡_, refl, sym, ap, _∙_, subst}
 use mathlib.Core.List.{List}
-use mathlib.Core.Bool.{true, false}
-use Prim.Native.Nat.{ℕ, _+_, _≤_, _<_}
+use Prim.Native.Nat.{ℕ, _<_}
 use native.Mathlib.Omega.{arith}
 use lib.ListN.{length}
-use Rattle.trellis.specs.Verdict.{Entry}
-use Rattle.trellis.specs.Search.{Row, nodeAt, costAt, Tried, findRow, entered}
+use Rattle.trellis.specs.Search.{Row, costAt, Tried, findRow, entered}
 use Rattle.trellis.proofs.Rows.{RowOf, findRow-is}
 use Rattle.trellis.proofs.Entered.{entered-lowers, entered-joins, entered-leaves, entered-adds, entered-stops}
 use Rattle.store.specs.Memory.{rowOf, rowsOf, Shows}

@@ -2,18 +2,17 @@
 use borrow.Author.Needs.{needs}
 use mathlib.Core.Path.{_≡_, refl, sym, ap, _∙_, subst}
 use mathlib.Core.List.{List}
-use mathlib.Core.Bool.{true, false}
-use Prim.Native.Nat.{ℕ, _+_, _-_, _≤_, _<_}
+use Prim.Native.Nat.{ℕ, _-_, _<_}
 use native.Mathlib.Omega.{arith}
-use lib.ListN.{length, length-set}
+use lib.ListN.{length}
 use Rattle.trellis.specs.Trellis.{Trellis, allowed}
 use Rattle.trellis.specs.Search.{Row, rowAt, nodeAt, Tried, shut, closed, relax, fan, expand}
 use Rattle.trellis.proofs.Rows.{set-changed}
-use Rattle.trellis.proofs.Safe.{Safe, safe-closed}
-use Rattle.store.specs.Memory.{rowOf, rowsOf, Stored, Shows}
+use Rattle.trellis.proofs.Safe.{safe-closed}
+use Rattle.store.specs.Memory.{rowsOf}
 use Rattle.store.proofs.Rows.{length-rowsOf}
 use Rattle.blocks.specs.Packed.{seenIn}
-use Rattle.search.specs.Work.{cap, trellisIn, Searchable, Roomy, Tries}
+use Rattle.search.specs.Work.{cap, trellisIn, Roomy, Tries}
 use Rattle.search.specs.declared.step.Tally.{Tally}
 use Rattle.search.proofs.Fans.{Fanning, fanning-cast, fanning-start, fanning-full, fanning-next, fanning-done}
 use Rattle.search.proofs.step.expand.Statement.{statement}
