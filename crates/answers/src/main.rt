@@ -2,8 +2,8 @@
 // the form of both. Every call goes through the C face. Nothing is promised of this program but that it is safe and ends; its lines are
 // compared with those of the second program.
 mod calls;
-mod fields;
 mod lines;
+mod record;
 mod stream;
 
 // A proved loop has to end, and nothing says that a stream does: the loop counts down from a number that no run uses up.

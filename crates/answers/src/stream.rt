@@ -1,10 +1,10 @@
 // Records, read one after another.
 use crate::calls;
-use crate::fields::KIND;
-use crate::fields::PAYLOAD;
-use crate::fields::number;
-use crate::fields::size;
 use crate::lines;
+use crate::record::KIND;
+use crate::record::PAYLOAD;
+use crate::record::number;
+use crate::record::size;
 use io::read_full;
 use libc::STDIN_FILENO;
 use show::text;

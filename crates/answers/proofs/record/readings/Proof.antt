@@ -1,28 +1,31 @@
--- `fields::symbols` is safe and ends: the measure is how many bytes are left. Assumes nothing.
+-- `record::readings` is safe and ends: the measure is how many places are left. Assumes nothing.
 use mathlib.Core.Path.{_≡_}
 use Prim.Native.Nat.{_-_, _≤_}
 use lib.ListN.{length}
 use borrow.Author.Needs.{needs}
-use Rattle.answers.proofs.fields.symbols.Statement.{statement}
-use Rattle.answers.proofs.fields.symbols.Tie as tie
+use Rattle.answers.proofs.record.readings.Statement.{statement}
+use Rattle.answers.proofs.record.readings.Tie as tie
 
 abbrev Inv-loop : tie.InvT-loop
-Inv-loop bytes into₀ i₀ into i = (i ≤ length bytes) × (length into ≡ length into₀)
+Inv-loop bytes into₀ i₀ into i = (i ≤ length into₀) × (length into ≡ length into₀)
 
 abbrev μ-loop : tie.MeasureT-loop
-μ-loop bytes into₀ i₀ into i = length bytes - i
+μ-loop bytes into₀ i₀ into i = length into₀ - i
 
 loop-holds : tie.Need-loop-holds Inv-loop μ-loop
 loop-holds c = search needs
 
-shared-slice-read-signed : tie.Need-shared-slice-read-signed Inv-loop μ-loop
-shared-slice-read-signed c = search needs
+mul-float : tie.Need-mul-float Inv-loop μ-loop
+mul-float c = search needs
 
-signed-requires : tie.Need-signed-requires Inv-loop μ-loop
-signed-requires c κs = search needs
+float-requires : tie.Need-float-requires Inv-loop μ-loop
+float-requires c κs = search needs
 
-slice-set-from-into : tie.Need-slice-set-from-into Inv-loop μ-loop
-slice-set-from-into c = search needs
+mul-into : tie.Need-mul-into Inv-loop μ-loop
+mul-into c = search needs
+
+slice-write-into : tie.Need-slice-write-into Inv-loop μ-loop
+slice-write-into c = search needs
 
 add-i : tie.Need-add-i Inv-loop μ-loop
 add-i c = search needs
@@ -45,16 +48,17 @@ same-length-2 c = search needs
 returns-2 : tie.Need-returns-2 Inv-loop μ-loop
 returns-2 c = search needs
 
-pub symbols-spec : {M : Type 1} → statement M
-symbols-spec =
+pub readings-spec : {M : Type 1} → statement M
+readings-spec =
     tie.close
     (tie.spec
     Inv-loop
     μ-loop
     loop-holds
-    shared-slice-read-signed
-    signed-requires
-    slice-set-from-into
+    mul-float
+    float-requires
+    mul-into
+    slice-write-into
     add-i
     loop-less
     loop-again

@@ -79,30 +79,12 @@ fn not_a_number() -> f32 {
     infinity - infinity
 }
 
-// The signed number of a byte's bits.
-pub fn signed(byte: u8) -> i8 {
-    if byte < 128 {
-        return byte as i8;
-    }
-    let below = (255 - byte) as i8;
-    -1 - below
-}
-
-// And the byte of its bits.
+// The byte of a symbol's bits.
 pub fn unsigned(symbol: i8) -> u8 {
     if symbol < 0 {
         return 255 - ((-1 - symbol) as u8);
     }
     symbol as u8
-}
-
-// Each byte as a symbol, as many as both have.
-pub fn symbols(bytes: &[u8], into: &mut [i8]) {
-    let mut i = 0usize;
-    while i < bytes.len() && i < into.len() {
-        into[i] = signed(bytes[i]);
-        i += 1;
-    }
 }
 
 // Each four bytes as a reading, as many as both have.
