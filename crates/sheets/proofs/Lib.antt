@@ -1,0 +1,4 @@
+pub mod Series
+pub mod Numbers
+pub mod Octets
+pub mod Written
