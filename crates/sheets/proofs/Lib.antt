@@ -2,3 +2,4 @@ pub mod Series
 pub mod Numbers
 pub mod Octets
 pub mod Written
+pub mod Frame

@@ -89,7 +89,7 @@ eight-cut byte h k fits =
         omega arith
 
 -- how many bits of byte j are the message's
-abbrev used : ℕ → ℕ → ℕ
+abbrev pub used : ℕ → ℕ → ℕ
 used l j = min 8 (l - 8 * j)
 
 -- For the form: the byte of the bits that were read, and what the unused bits are worth, make the byte.
@@ -110,4 +110,3 @@ octet-read bytes b l j =
         ∙ ap₂ (λ (x y : ℕ). getD bytes (messagePlace + x) 0 / 2 ^ (7 - y) % 2) q m
         ∙ sym (rw (lt-ltb r (used l j) (omega arith)))
     there r small (no h) = getD-series-past l (bitAt bytes) (8 * j + r) 0 (omega arith) ∙ sym (rw (le-ltb r (used l j) (omega arith)))
-
