@@ -19,7 +19,7 @@ use Rattle.trellis.specs.Trellis.{Path, Node, metric}
 use Rattle.trellis.specs.Verdict.{leastMetric}
 use Rattle.trellis.proofs.Cost.{Cost}
 use Rattle.trellis.proofs.Messages.{leastMetric-cost}
-use Rattle.blocks.specs.Symbols.{weight, view}
+use Rattle.blocks.specs.Symbols.{hardBit, weight, view}
 use Rattle.blocks.specs.Blocks.{totalWeight, trellisOf, longestBlock, greatestWeight, greatestMetric}
 use Rattle.blocks.proofs.Closing.{trellis-lawful}
 use Rattle.blocks.proofs.Distance.{metric-total}
@@ -35,6 +35,11 @@ greatest-metric = refl
 pub weight-byte : (z : ℤ) → SFits w8 z → weight z ≤ greatestWeight
 weight-byte (pos n) h = omega (arith, h .sfits)
 weight-byte (negsuc n) h = omega (arith, h .sfits)
+
+-- for the block as plain numbers, whose lowest bit it is
+pub hardBit-bit : (z : ℤ) → hardBit z ≤ 1
+hardBit-bit (pos n) = omega arith
+hardBit-bit (negsuc n) = omega arith
 
 -- for 'the sum of all weights'
 pub view-total : (symbols : List ℤ) → Every (SFits w8) symbols → totalWeight (view symbols) ≤ greatestWeight * length symbols

@@ -1,0 +1,17 @@
+-- `branches::toll` meets its contract: the test of the bits is the definition's. Assumes nothing.
+use borrow.Author.Needs.{needs}
+use borrow.Author.Tests.{eq-eqb, ne-eqb}
+use Rattle.blocks.proofs.branches.toll.Statement.{statement}
+use Rattle.blocks.proofs.branches.toll.Tie as tie
+
+cast-result : tie.Need-cast-result
+cast-result c = search needs
+
+returns : tie.Need-returns
+returns c = rw (eq-eqb _ _ (c .if1 .taken))
+
+returns-2 : tie.Need-returns-2
+returns-2 c = rw (ne-eqb _ _ (c .if1 .left))
+
+pub toll-spec : {M : Type 1} → statement M
+toll-spec = tie.close (tie.spec cast-result returns returns-2)
