@@ -2,9 +2,10 @@
 use mathlib.Core.Path.{_≡_, refl, sym, ap, ap₂, _∙_}
 use mathlib.Core.List.{List, [], _∷_, _++_}
 use Prim.Native.Nat.{ℕ, zero, suc, _+_, _*_, _/_, _%_, _^_, _≤_, _<_}
-use native.Mathlib.Nat.{pow-suc}
+use native.Mathlib.Nat.{pow-suc, div-div-eq-div-mul}
 use native.Mathlib.Omega.{arith}
 use lib.ListN.{length, getD, drop}
+use lib.Pow.{field}
 use lib.Seq.{drop-cons, getD-drop}
 use Rattle.sheets.specs.Bytes.{bytesOf, numberAt}
 
@@ -59,3 +60,19 @@ pub numberAt-below : (l : List ℕ) → Bytes l → (width at : ℕ) → numberA
 unfolding numberAt
 numberAt-below l b zero at = omega arith
 numberAt-below l b (suc width) at = omega (arith, b at, numberAt-below l b width (suc at), pow-suc 256 width)
+
+-- ---- four bytes are twice two
+
+pub number-halves : (at : ℕ) (l : List ℕ) → numberAt 4 at l ≡ numberAt 2 at l + 65536 * numberAt 2 (at + 2) l
+unfolding numberAt
+number-halves at l = let e : at + 2 ≡ suc (suc at) = omega arith in rw e (omega arith)
+
+pub bytes-halves : (n : ℕ) → bytesOf 4 n ≡ bytesOf 2 (n % 65536) ++ bytesOf 2 (n / 65536)
+unfolding bytesOf
+bytes-halves n =
+    let a : n % 256 ≡ n % 65536 % 256 = omega arith in
+    let b : n / 256 % 256 ≡ n % 65536 / 256 % 256 = omega (arith, field n 8 8) in
+    let q : n / 256 / 256 ≡ n / 65536 = div-div-eq-div-mul n 256 256 in
+    let c : n / 256 / 256 % 256 ≡ n / 65536 % 256 = ap (λ (x : ℕ). x % 256) q in
+    let d : n / 256 / 256 / 256 % 256 ≡ n / 65536 / 256 % 256 = ap (λ (x : ℕ). x / 256 % 256) q in
+    λ z. a z ∷ b z ∷ c z ∷ d z ∷ []

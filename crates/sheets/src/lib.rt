@@ -1,2 +1,3 @@
 // The decision sheet: its bytes put and read, and the check.
+mod bytes;
 pub mod check;
