@@ -1,0 +1,100 @@
+-- What the parts of the check promise each other: the entries as their own bytes say them, the cost that is listed for a node, the
+-- message's path level by level, and the tests of one branch. Not for the reader: what the check answers is said in Checking alone.
+-- Assumes nothing.
+use mathlib.Core.Path.{_≡_}
+use mathlib.Core.List.{List, [], _∷_}
+use mathlib.Core.Bool.{Bool, true, cond, not, _&&_, _||_}
+use Prim.Native.Nat.{ℕ, zero, suc, _+_, _*_, _/_, _≤_, _<_}
+use lib.Dec.{eqb, ltb, leb}
+use lib.ListN.{length, getD}
+use Rattle.lists.specs.Lists.{all, below}
+use Rattle.codes.specs.declared.table.Code.{Code}
+use Rattle.codes.specs.Limits.{longestMessage}
+use Rattle.codes.specs.Codes.{lawful, blockLength}
+use Rattle.trellis.specs.Trellis.{Trellis, Path, Node, node, same, allowed, ends, metric}
+use Rattle.trellis.specs.Verdict.{Entry, entry}
+use Rattle.trellis.specs.Sheet.{onto}
+use Rattle.sheets.specs.Bytes.{series, numberAt, countPlace, entriesPlace, entryAt}
+use Rattle.sheets.specs.Checking.{rising, inTrellis}
+
+-- ---- the entries
+
+-- the entries of bytes that hold nothing else
+unfoldable pub entriesIn : List ℕ → List Entry
+entriesIn bytes = series (length bytes / 8) (λ i. entryAt bytes (8 * i))
+
+-- level and state as one number: the order of the numbers is the order of the nodes, as a state is below 65,536
+abbrev pub keyOf : Node → ℕ
+keyOf x = x .level * 65536 + x .state
+
+-- where a key was sought: its place, or behind the last entry if none has it
+pub record Sought (bytes : List ℕ) (key place : ℕ) : Type 0 where
+  pub found : place < length bytes / 8 → keyOf (entryAt bytes (8 * place) .node) ≡ key
+  pub missing : length bytes / 8 ≤ place → (i : ℕ) → i < length bytes / 8 → keyOf (entryAt bytes (8 * i) .node) ≡ key → ⊥
+
+-- more than any cost of four bytes
+abbrev pub absent : ℕ
+absent = 4294967296
+
+-- the cost that a list gives a node; more than any cost if it is not listed
+unfoldable pub listedCost : List Entry → Node → ℕ
+listedCost [] x = absent
+listedCost (e ∷ es) x = let rest : ℕ = listedCost es x in cond (same (e .node) x) (e .cost) rest
+
+-- ---- the message's path
+
+-- the path of the first so many inputs; behind the message they are 0
+unfoldable pub early : List ℕ → ℕ → Path
+early message zero = []
+early message (suc k) = getD message k 0 ∷ early message k
+
+-- the states and the metrics of a message's path, from the origin to a level
+pub record Walked (t : Trellis) (message : List ℕ) (level : ℕ) (states metrics : List ℕ) : Type 0 where
+  pub states-at : (j : ℕ) → j ≤ level → getD states j 0 ≡ ends t (early message j)
+  pub metrics-at : (j : ℕ) → j ≤ level → getD metrics j 0 ≡ metric t (early message j)
+
+-- C at a level: the path's node is listed, its cost the metric so far
+abbrev pub onPath : List Entry → List ℕ → List ℕ → ℕ → Bool
+onPath es states metrics j = eqb (listedCost es (node j (getD states j 0))) (getD metrics j 0)
+
+-- ---- one branch
+
+-- B for what a branch brings
+abbrev pub onward : List Entry → ℕ → Entry → Bool
+onward es m a = ltb m (a .cost) || leb (listedCost es (a .node)) (a .cost)
+
+-- D for what a branch from an entry brings. Two branches of one code into one state have the same input, so the states alone tell
+-- whether it is the path's own.
+abbrev pub clear : List ℕ → List ℕ → Entry → Entry → Bool
+clear states metrics e a =
+    not (eqb (a .node .state) (getD states (a .node .level) 0)) ||
+    eqb (e .node .state) (getD states (e .node .level) 0) ||
+    ltb (getD metrics (a .node .level) 0) (a .cost)
+
+-- both, for the branch from an entry with an input
+abbrev pub passing : Trellis → List Entry → ℕ → List ℕ → List ℕ → Entry → ℕ → Bool
+passing t es m states metrics e b = onward es m (onto t e b) && clear states metrics e (onto t e b)
+
+-- both, for every branch of an entry
+unfoldable pub allPassing : Trellis → List Entry → ℕ → List ℕ → List ℕ → Entry → Bool
+allPassing t es m states metrics e = all (passing t es m states metrics e) (below (allowed t (e .node .level)))
+
+-- ---- what the parts ask of their callers
+
+-- a sheet whose message and entries are all there
+pub record Whole (l : ℕ) (bytes : List ℕ) : Type 0 where
+  pub span : l ≤ longestMessage
+  pub size : length bytes ≡ entriesPlace l + 8 * numberAt 2 countPlace bytes
+
+-- a code and the block of its messages of L bits
+pub record Measured (c : Code) (l symbols : ℕ) : Type 0 where
+  pub code : lawful c ≡ true
+  pub span : l ≤ longestMessage
+  pub block : symbols ≡ blockLength c l
+
+-- entries that rise and stay in the trellis, and room for the path
+pub record Branching (c : Code) (l : ℕ) (bytes : List ℕ) (room more-room : ℕ) : Type 0 where
+  pub ordered : rising (entriesIn bytes) ≡ true
+  pub inside : all (inTrellis c l) (entriesIn bytes) ≡ true
+  pub states : l + c .memory < room
+  pub metrics : l + c .memory < more-room
