@@ -6,3 +6,5 @@ pub mod Frame
 pub mod Agree
 pub mod Listing
 pub mod Costs
+pub mod Walks
+pub mod Inputs

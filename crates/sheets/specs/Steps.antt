@@ -14,7 +14,7 @@ use Rattle.codes.specs.Codes.{lawful, blockLength}
 use Rattle.trellis.specs.Trellis.{Trellis, Path, Node, node, same, allowed, ends, metric}
 use Rattle.trellis.specs.Verdict.{Entry, entry}
 use Rattle.trellis.specs.Sheet.{onto}
-use Rattle.sheets.specs.Bytes.{series, numberAt, countPlace, entriesPlace, entryAt}
+use Rattle.sheets.specs.Bytes.{series, entriesPlace, entryAt}
 use Rattle.sheets.specs.Checking.{rising, inTrellis}
 
 -- ---- the entries
@@ -63,17 +63,16 @@ onPath es states metrics j = eqb (listedCost es (node j (getD states j 0))) (get
 abbrev pub onward : List Entry → ℕ → Entry → Bool
 onward es m a = ltb m (a .cost) || leb (listedCost es (a .node)) (a .cost)
 
--- D for what a branch from an entry brings. Two branches of one code into one state have the same input, so the states alone tell
--- whether it is the path's own.
-abbrev pub clear : List ℕ → List ℕ → Entry → Entry → Bool
-clear states metrics e a =
-    not (eqb (a .node .state) (getD states (a .node .level) 0)) ||
-    eqb (e .node .state) (getD states (e .node .level) 0) ||
-    ltb (getD metrics (a .node .level) 0) (a .cost)
+-- D for a branch from a level and a state to the next state, at a cost in all. Two branches of one code into one state have the same
+-- input, so the states alone tell whether it is the path's own.
+abbrev pub clear : List ℕ → List ℕ → ℕ → ℕ → ℕ → ℕ → Bool
+clear states metrics level state next total =
+    not (eqb next (getD states (level + 1) 0)) || eqb state (getD states level 0) || ltb (getD metrics (level + 1) 0) total
 
 -- both, for the branch from an entry with an input
 abbrev pub passing : Trellis → List Entry → ℕ → List ℕ → List ℕ → Entry → ℕ → Bool
-passing t es m states metrics e b = onward es m (onto t e b) && clear states metrics e (onto t e b)
+passing t es m states metrics e b =
+    onward es m (onto t e b) && clear states metrics (e .node .level) (e .node .state) (onto t e b .node .state) (onto t e b .cost)
 
 -- both, for every branch of an entry
 unfoldable pub allPassing : Trellis → List Entry → ℕ → List ℕ → List ℕ → Entry → Bool
@@ -81,20 +80,37 @@ allPassing t es m states metrics e = all (passing t es m states metrics e) (belo
 
 -- ---- what the parts ask of their callers
 
--- a sheet whose message and entries are all there
+-- a sheet whose message is all there
 pub record Whole (l : ℕ) (bytes : List ℕ) : Type 0 where
   pub span : l ≤ longestMessage
-  pub size : length bytes ≡ entriesPlace l + 8 * numberAt 2 countPlace bytes
+  pub size : entriesPlace l ≤ length bytes
 
--- a code and the block of its messages of L bits
-pub record Measured (c : Code) (l symbols : ℕ) : Type 0 where
+-- a code, the block of its messages of L bits, a sheet, and room for the path's states and metrics
+pub record Walkable (c : Code) (l : ℕ) (block bytes states metrics : List ℕ) : Type 0 where
+  pub code : lawful c ≡ true
+  pub whole : Whole l bytes
+  pub full : length block ≡ blockLength c l
+  pub room : l + c .memory < length states
+  pub more : l + c .memory < length metrics
+
+-- entries that rise, and the states of a path to a level
+pub record Followed (bytes states metrics : List ℕ) (top : ℕ) : Type 0 where
+  pub ordered : rising (entriesIn bytes) ≡ true
+  pub short : top < 65536
+  pub room : top < length states
+  pub more : top < length metrics
+  pub small : (j : ℕ) → j ≤ top → getD states j 0 < 65536
+
+-- entries that rise and stay in the trellis of a code and a block, and the path
+pub record Branching (c : Code) (l : ℕ) (block bytes states metrics : List ℕ) : Type 0 where
   pub code : lawful c ≡ true
   pub span : l ≤ longestMessage
-  pub block : symbols ≡ blockLength c l
-
--- entries that rise and stay in the trellis, and room for the path
-pub record Branching (c : Code) (l : ℕ) (bytes : List ℕ) (room more-room : ℕ) : Type 0 where
+  pub full : length block ≡ blockLength c l
   pub ordered : rising (entriesIn bytes) ≡ true
   pub inside : all (inTrellis c l) (entriesIn bytes) ≡ true
-  pub states : l + c .memory < room
-  pub metrics : l + c .memory < more-room
+  pub room : l + c .memory < length states
+  pub more : l + c .memory < length metrics
+
+-- one of the entries
+abbrev pub Place : List ℕ → ℕ → Type 0
+Place bytes i = i < length bytes / 8

@@ -4,35 +4,34 @@ use crate::bytes::number32;
 ghost use mathlib.Core.Path.{_≡_};
 ghost use mathlib.Core.Bool.{true};
 ghost use mathlib.Core.Bool.{_&&_};
-ghost use Prim.Native.Nat.{_+_, _*_, _/_, _≤_, _<_};
+ghost use Prim.Native.Nat.{_+_, _*_, _<_};
 ghost use lib.Dec.{leb, ltb};
-ghost use lib.ListN.{length};
 ghost use Rattle.lists.specs.Lists.{all};
 ghost use Rattle.trellis.specs.Trellis.{node};
 ghost use Rattle.sheets.specs.Bytes.{entryAt};
 ghost use Rattle.sheets.specs.Checking.{rising};
-ghost use Rattle.sheets.specs.Steps.{entriesIn, keyOf, Sought, listedCost};
+ghost use Rattle.sheets.specs.Steps.{entriesIn, keyOf, Sought, listedCost, Place};
 
 // More than any cost of four bytes.
 const ABSENT: u64 = 4294967296;
 
 // Level, state and cost of entry i.
 pub fn level(entries: &[u8], i: usize) -> u64
-    requires { ⌜ i < length (now entries) / 8 ⌝ }
+    requires { ⌜ Place (now entries) i ⌝ }
     ensures { λ r. ⌜ (r ≡ entryAt (now (entries .entry)) (8 * i) .node .level) × (r < 65536) ⌝ }
 {
     number16(entries, 8 * i) as u64
 }
 
 pub fn state(entries: &[u8], i: usize) -> u64
-    requires { ⌜ i < length (now entries) / 8 ⌝ }
+    requires { ⌜ Place (now entries) i ⌝ }
     ensures { λ r. ⌜ (r ≡ entryAt (now (entries .entry)) (8 * i) .node .state) × (r < 65536) ⌝ }
 {
     number16(entries, 8 * i + 2) as u64
 }
 
 pub fn cost(entries: &[u8], i: usize) -> u64
-    requires { ⌜ i < length (now entries) / 8 ⌝ }
+    requires { ⌜ Place (now entries) i ⌝ }
     ensures { λ r. ⌜ (r ≡ entryAt (now (entries .entry)) (8 * i) .cost) × (r < 4294967296) ⌝ }
 {
     number32(entries, 8 * i + 4) as u64
@@ -40,7 +39,7 @@ pub fn cost(entries: &[u8], i: usize) -> u64
 
 // Level and state as one number.
 fn key(entries: &[u8], i: usize) -> u64
-    requires { ⌜ i < length (now entries) / 8 ⌝ }
+    requires { ⌜ Place (now entries) i ⌝ }
     ensures { λ r. ⌜ r ≡ keyOf (entryAt (now (entries .entry)) (8 * i) .node) ⌝ }
 {
     level(entries, i) * 65536 + state(entries, i)

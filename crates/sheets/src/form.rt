@@ -2,12 +2,10 @@
 use crate::bytes::number16;
 use crate::bytes::number32;
 ghost use mathlib.Core.Path.{_≡_};
-ghost use Prim.Native.Nat.{_+_, _*_, _≤_};
-ghost use lib.ListN.{length, getD};
-ghost use lib.Seq.{sets};
-ghost use Rattle.sheets.specs.Bytes.{kind, messageSize, messagePlace, entriesPlace, bitAt, sheetRead};
+ghost use Prim.Native.Nat.{_+_, _≤_};
+ghost use lib.ListN.{length};
+ghost use Rattle.sheets.specs.Bytes.{messageSize, messagePlace, entriesPlace, bitAt};
 ghost use Rattle.sheets.specs.Checking.{framed};
-ghost use Rattle.sheets.specs.Steps.{Whole};
 
 const KIND: u16 = 257;
 
