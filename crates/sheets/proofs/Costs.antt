@@ -14,13 +14,11 @@ use Rattle.lists.proofs.Sorted.{Sorted}
 use Rattle.lists.proofs.Decides.{Decides, said, equal, atMost}
 use Rattle.trellis.specs.Trellis.{Node, same}
 use Rattle.trellis.specs.Verdict.{Entry, entry}
-use Rattle.trellis.specs.Sheet.{listedAs, listedWithin}
 use Rattle.trellis.proofs.Paths.{same-equality}
 use Rattle.trellis.proofs.Order.{earlier-order, entry-path}
 use Rattle.trellis.proofs.Honest.{lower}
-use Rattle.trellis.proofs.SheetTests.{Listed, listedAs-test, listedWithin-test}
+use Rattle.trellis.proofs.SheetTests.{Listed}
 use Rattle.sheets.specs.Steps.{absent, listedCost}
-use Rattle.sheets.proofs.Agree.{agree}
 
 -- how it goes on, where it is known if the first entry is the node's
 cost-here : (e : Entry) (es : List Entry) (x : Node) → e .node ≡ x → listedCost (e ∷ es) x ≡ e .cost
@@ -57,16 +55,16 @@ listed-none [] d x h = refl
 listed-none (e ∷ es) d x h = cost-further e es x (h 0 (omega arith)) ∙ listed-none es d x (λ i l. h (suc i) (omega arith))
 
 module _ (es : List Entry) (s : Sorted lower es) (x : Node) (c : ℕ) (small : c < absent) where
-  -- for A and C
-  pub listedAs-cost : listedAs es x c ≡ eqb (listedCost es x) c
-  listedAs-cost = agree (listedAs-test es (record { cost = c; node = x })) (said (equal (listedCost es x) c) out (λ m. listed-one es s m))
+  -- for A and C: listed with just this cost
+  pub equal-cost : Decides (eqb (listedCost es x) c) (record { cost = c; node = x } ∈ es)
+  equal-cost = said (equal (listedCost es x) c) out (λ m. listed-one es s m)
     where
       out : listedCost es x ≡ c → record { cost = c; node = x } ∈ es
       out e = member-cast (entry-path (sym e) refl) (listed-from es x (omega arith))
 
-  -- for B
-  pub listedWithin-cost : listedWithin es x c ≡ leb (listedCost es x) c
-  listedWithin-cost = agree (listedWithin-test es x c) (said (atMost (listedCost es x) c) out into)
+  -- for B: listed with a cost of at most this
+  pub within-cost : Decides (leb (listedCost es x) c) (Listed es x c)
+  within-cost = said (atMost (listedCost es x) c) out into
     where
       out : listedCost es x ≤ c → Listed es x c
       out h = record { cost = listedCost es x; here = listed-from es x (omega arith); small = h }

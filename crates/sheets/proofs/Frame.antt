@@ -66,16 +66,16 @@ entries-stand bytes b (suc n) at h =
     ∙ ap₂ (λ (k : ℕ) (t : List ℕ). entryBytes (entryAt bytes k) ++ t) here
     (entries-stand bytes b n (at + 8) (omega arith) ∙ ap₂ (λ (es : List Entry) (k : ℕ). flatMap entryBytes es ++ drop k bytes) on end)
 
-module _ (l : ℕ) (bytes : List ℕ) (b : Bytes bytes) (some : 1 ≤ l) (short : l < 65536) where
-  -- the entries that are read are as many as the count says
-  pub counted : length (sheetRead l bytes .entries) ≡ numberAt 2 countPlace bytes
-  unfolding sheetRead
-  counted = length-series (numberAt 2 countPlace bytes) _
+-- the entries that are read are as many as the count says
+pub counted : (l : ℕ) (bytes : List ℕ) → length (sheetRead l bytes .entries) ≡ numberAt 2 countPlace bytes
+unfolding sheetRead
+counted l bytes = length-series (numberAt 2 countPlace bytes) _
 
+module _ (l : ℕ) (bytes : List ℕ) (b : Bytes bytes) (some : 1 ≤ l) (short : l < 65536) where
   -- what is written in front of the message
   follow-back : numberAt 4 0 (sheetBytes l (sheetRead l bytes)) + 4 ≡ sheetSize l (numberAt 2 countPlace bytes)
   unfolding sheetBytes bytesOf numberAt
-  follow-back = omega (arith, length-following l (sheetRead l bytes), counted, numberAt-below bytes b 2 countPlace)
+  follow-back = omega (arith, length-following l (sheetRead l bytes), counted l bytes, numberAt-below bytes b 2 countPlace)
 
   kind-back : numberAt 2 4 (sheetBytes l (sheetRead l bytes)) ≡ kind
   unfolding sheetBytes following bytesOf numberAt
@@ -111,7 +111,7 @@ module _ (l : ℕ) (bytes : List ℕ) (b : Bytes bytes) (some : 1 ≤ l) (short 
   }
     where
       size : length bytes ≡ sheetSize l (numberAt 2 countPlace bytes)
-      size = ap length (sym e) ∙ length-sheetBytes l (sheetRead l bytes) ∙ ap (sheetSize l) counted
+      size = ap length (sym e) ∙ length-sheetBytes l (sheetRead l bytes) ∙ ap (sheetSize l) (counted l bytes)
 
   -- every byte of the message is that of its bits
   message-stands : Framed l bytes → drop messagePlace bytes ≡ messageBytes l (series l (bitAt bytes)) ++ drop (entriesPlace l) bytes
@@ -145,13 +145,13 @@ module _ (l : ℕ) (bytes : List ℕ) (b : Bytes bytes) (some : 1 ≤ l) (short 
       (stands bytes b 4 8 12 refl (omega (arith, f .size))
       ∙ ap (λ (t : List ℕ). bytesOf 4 (numberAt 4 8 bytes) ++ t)
       (stands bytes b 2 12 14 refl (omega (arith, f .size))
-      ∙ ap₂ (λ (n : ℕ) (t : List ℕ). bytesOf 2 n ++ t) (sym counted)
+      ∙ ap₂ (λ (n : ℕ) (t : List ℕ). bytesOf 2 n ++ t) (sym (counted l bytes))
       (message-stands f ∙ ap (λ (t : List ℕ). messageBytes l (series l (bitAt bytes)) ++ t) (listed-stand f)))))
 
   frame-in : Framed l bytes → sheetBytes l (sheetRead l bytes) ≡ bytes
   unfolding sheetBytes
   frame-in f =
-      let n : numberAt 4 0 bytes ≡ length (following l (sheetRead l bytes)) = omega (arith, f .follow, f .size, length-following l (sheetRead l bytes), counted) in
+      let n : numberAt 4 0 bytes ≡ length (following l (sheetRead l bytes)) = omega (arith, f .follow, f .size, length-following l (sheetRead l bytes), counted l bytes) in
       sym (stands bytes b 4 0 4 refl (omega (arith, f .size)) ∙ ap₂ (λ (k : ℕ) (t : List ℕ). bytesOf 4 k ++ t) n (following-stands f))
 
   -- For the check of the form.

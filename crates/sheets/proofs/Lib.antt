@@ -8,3 +8,6 @@ pub mod Listing
 pub mod Costs
 pub mod Walks
 pub mod Inputs
+pub mod Early
+pub mod Claims
+pub mod Rows

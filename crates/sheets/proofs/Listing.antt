@@ -3,13 +3,13 @@ use mathlib.Core.Path.{_≡_, refl, sym, ap, _∙_, subst₂}
 use mathlib.Core.Logic.{_⊎_, inl, inr}
 use mathlib.Core.List.{List, [], _∷_, _++_}
 use mathlib.Core.Bool.{Bool, true, false, _&&_}
-use Prim.Native.Nat.{ℕ, zero, suc, _+_, _*_, _/_, _≤_, _<_}
+use Prim.Native.Nat.{ℕ, zero, suc, _+_, _*_, _/_, _-_, _≤_, _<_}
 use native.Mathlib.Nat.{le-of-suc-le-suc}
 use native.Mathlib.Numerals.{add-one}
 use native.Mathlib.Omega.{arith}
 use lib.Dec.{T}
-use lib.ListN.{length, getD, drop, length-drop}
-use lib.Seq.{drop-cons, getD-drop}
+use lib.ListN.{length, getD, take, drop, length-drop}
+use lib.Seq.{drop-cons, take-all}
 use Rattle.lists.specs.Lists.{_∈_}
 use Rattle.lists.proofs.Tests.{true-in, and-out, and-in}
 use Rattle.lists.proofs.Membership.{here, further, nil-out, every-cons}
@@ -126,3 +126,31 @@ module _ (es : List Entry) (d : Entry) (i : ℕ) where
       go [] k = refl
       go (e ∷ []) k = refl
       go (e ∷ f ∷ l) k = absurd (omega arith)
+
+-- ---- the entries of a sheet
+
+-- for the part of a sheet that holds its entries
+pub entriesIn-sheet : (l : ℕ) (bytes : List ℕ) → length bytes ≡ entriesPlace l + 8 * numberAt 2 countPlace bytes → entriesIn (drop (entriesPlace l) bytes) ≡ sheetRead l bytes .entries
+unfolding entriesIn sheetRead
+entriesIn-sheet l bytes h =
+    let n : length (drop (entriesPlace l) bytes) / 8 ≡ numberAt 2 countPlace bytes = omega (arith, length-drop (entriesPlace l) bytes) in
+    ap (λ (k : ℕ). series k (λ i. entryAt (drop (entriesPlace l) bytes) (8 * i))) n
+    ∙ series-same (numberAt 2 countPlace bytes) _ _ (λ i k. moved (8 * i))
+  where
+    moved : (at : ℕ) → entryAt (drop (entriesPlace l) bytes) at ≡ entryAt bytes (entriesPlace l + at)
+    moved at =
+        let e : entriesPlace l + (at + 4) ≡ entriesPlace l + at + 4 = omega arith in
+        let f : entriesPlace l + (at + 2) ≡ entriesPlace l + at + 2 = omega arith in
+        λ z. entry
+        ((sym (numberAt-drop 4 (at + 4) (entriesPlace l) bytes) ∙ ap (λ (k : ℕ). numberAt 4 k bytes) e) z)
+        (sym (numberAt-drop 2 at (entriesPlace l) bytes) z)
+        ((sym (numberAt-drop 2 (at + 2) (entriesPlace l) bytes) ∙ ap (λ (k : ℕ). numberAt 2 k bytes) f) z)
+
+-- the part of a list from a place on
+pub part-rest : (bytes : List ℕ) (place : ℕ) → take (length bytes - place) (drop place bytes) ≡ drop place bytes
+part-rest bytes place = take-all (length bytes - place) (drop place bytes) (omega (arith, length-drop place bytes))
+
+-- both, as a program lends that part
+pub entriesIn-part : (l : ℕ) (bytes : List ℕ) (place : ℕ) → place ≡ entriesPlace l → length bytes ≡ entriesPlace l + 8 * numberAt 2 countPlace bytes
+    → entriesIn (take (length bytes - place) (drop place bytes)) ≡ sheetRead l bytes .entries
+entriesIn-part l bytes place e h = ap entriesIn (part-rest bytes place ∙ ap (λ (k : ℕ). drop k bytes) e) ∙ entriesIn-sheet l bytes h

@@ -110,3 +110,11 @@ octet-read bytes b l j =
         ∙ ap₂ (λ (x y : ℕ). getD bytes (messagePlace + x) 0 / 2 ^ (7 - y) % 2) q m
         ∙ sym (rw (lt-ltb r (used l j) (omega arith)))
     there r small (no h) = getD-series-past l (bitAt bytes) (8 * j + r) 0 (omega arith) ∙ sym (rw (le-ltb r (used l j) (omega arith)))
+
+-- what is read of a message is bits
+pub bits-read : (bytes : List ℕ) (l : ℕ) → Bits (series l (bitAt bytes))
+bits-read bytes l i = go (decLt i l)
+  where
+    go : Dec (i < l) → getD (series l (bitAt bytes)) i 0 ≤ 1
+    go (yes h) = omega (arith, getD-series l (bitAt bytes) i 0 h)
+    go (no h) = omega (arith, getD-series-past l (bitAt bytes) i 0 (omega arith))

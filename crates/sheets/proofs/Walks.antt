@@ -8,7 +8,7 @@ use native.Mathlib.Omega.{arith}
 use lib.ListN.{length, getD, set, replicate}
 use lib.Seq.{getD-set-same, getD-set-other}
 use Rattle.trellis.specs.Trellis.{Trellis, Path, ends, along, metric}
-use Rattle.sheets.specs.Steps.{early, Walked}
+use Rattle.sheets.specs.Steps.{absent, early, Walked}
 
 -- a path's level is the number of its inputs
 pub length-early : (message : List ℕ) (k : ℕ) → length (early message k) ≡ k
@@ -29,30 +29,32 @@ pub record Walking (t : Trellis) (message : List ℕ) (most bound : ℕ) (states
   pub below : state < bound
   pub walked : Walked t message level states metrics
 
--- the numbers that were written, with one more behind them
-written : (f : ℕ → ℕ) (l : List ℕ) (k x : ℕ) → k + 1 < length l → ((j : ℕ) → j ≤ k → getD l j 0 ≡ f j) → x ≡ f (k + 1)
-    → (j : ℕ) → j ≤ k + 1 → getD (set l (k + 1) x) j 0 ≡ f j
-written f l k x room h e j fits = go (ℕ-discrete j (k + 1))
+-- what holds of the numbers that were written, and of one more behind them
+written : (P : ℕ → ℕ → Type 0) (l : List ℕ) (k x : ℕ) → k + 1 < length l → ((j : ℕ) → j ≤ k → P j (getD l j 0)) → P (k + 1) x
+    → (j : ℕ) → j ≤ k + 1 → P j (getD (set l (k + 1) x) j 0)
+written P l k x room h e j fits = go (ℕ-discrete j (k + 1))
   where
-    go : Dec (j ≡ k + 1) → getD (set l (k + 1) x) j 0 ≡ f j
-    go (yes q) = subst (λ (i : ℕ). getD (set l (k + 1) x) i 0 ≡ f i) (sym q) (getD-set-same l (k + 1) x 0 room ∙ e)
-    go (no n) = getD-set-other l (k + 1) j x 0 n ∙ h j (omega arith)
+    go : Dec (j ≡ k + 1) → P j (getD (set l (k + 1) x) j 0)
+    go (yes q) = subst (λ (i : ℕ). P i (getD (set l (k + 1) x) i 0)) (sym q) (subst (P (k + 1)) (sym (getD-set-same l (k + 1) x 0 room)) e)
+    go (no n) = subst (P j) (sym (getD-set-other l (k + 1) j x 0 n)) (h j (omega arith))
 
 module _ (t : Trellis) (message : List ℕ) (most bound : ℕ) (states metrics : List ℕ) (state spent level : ℕ)
     (w : Walking t message most bound states metrics state spent level) where
   -- for the loop's next turn: one branch is walked
-  pub walking-next : (b paid to : ℕ) → b ≡ getD message level 0 → paid ≡ t .price level state b → to ≡ t .next state b → paid ≤ most → to < bound
+  pub walking-next : (b paid to : ℕ) → b ≡ getD message level 0 → paid ≡ t .price level state b → to ≡ t .next state b → paid ≤ most → to < bound → to < 65536 → spent + paid < absent
       → level + 1 < length states → level + 1 < length metrics
       → Walking t message most bound (set states (level + 1) to) (set metrics (level + 1) (spent + paid)) to (spent + paid) (level + 1)
   unfolding ends along
-  walking-next b paid to eb ep et cheap low room more = record {
+  walking-next b paid to eb ep et cheap low small fits room more = record {
     here = here;
     paid = sum;
     small = omega (arith, w .small);
     below = low;
     walked = record {
-      states-at = written (λ j. ends t (early message j)) states level to room (w .walked .states-at) here;
-      metrics-at = written (λ j. metric t (early message j)) metrics level (spent + paid) more (w .walked .metrics-at) sum;
+      states-at = written (λ j x. x ≡ ends t (early message j)) states level to room (w .walked .states-at) here;
+      states-small = written (λ j x. x < 65536) states level to room (w .walked .states-small) small;
+      metrics-at = written (λ j x. x ≡ metric t (early message j)) metrics level (spent + paid) more (w .walked .metrics-at) sum;
+      metrics-small = written (λ j x. x < absent) metrics level (spent + paid) more (w .walked .metrics-small) fits;
     };
   }
     where
@@ -74,13 +76,14 @@ walking-start t message most bound states metrics b s m = record {
   paid = refl;
   small = omega arith;
   below = b;
-  walked = record { states-at = (λ j h. first j h s); metrics-at = (λ j h. free j h m) };
+  walked = record {
+    states-at = (λ j h. first (λ k x. x ≡ ends t (early message k)) states s refl j h);
+    states-small = (λ j h. first (λ k x. x < 65536) states s (omega arith) j h);
+    metrics-at = (λ j h. first (λ k x. x ≡ metric t (early message k)) metrics m refl j h);
+    metrics-small = (λ j h. first (λ k x. x < absent) metrics m (omega arith) j h);
+  };
 }
   where
-    first : (j : ℕ) → j ≤ 0 → getD states 0 0 ≡ 0 → getD states j 0 ≡ ends t (early message j)
-    first zero h e = e
-    first (suc j) h e = absurd (omega arith)
-
-    free : (j : ℕ) → j ≤ 0 → getD metrics 0 0 ≡ 0 → getD metrics j 0 ≡ metric t (early message j)
-    free zero h e = e
-    free (suc j) h e = absurd (omega arith)
+    first : (P : ℕ → ℕ → Type 0) (l : List ℕ) → getD l 0 0 ≡ 0 → P 0 0 → (j : ℕ) → j ≤ 0 → P j (getD l j 0)
+    first P l e h zero k = subst (P 0) (sym e) h
+    first P l e h (suc j) k = absurd (omega arith)

@@ -6,7 +6,7 @@ use mathlib.Core.List.{List, [], _∷_}
 use mathlib.Core.Bool.{Bool, true, cond, not, _&&_, _||_}
 use Prim.Native.Nat.{ℕ, zero, suc, _+_, _*_, _/_, _≤_, _<_}
 use lib.Dec.{eqb, ltb, leb}
-use lib.ListN.{length, getD}
+use lib.ListN.{length, getD, drop}
 use Rattle.lists.specs.Lists.{all, below}
 use Rattle.codes.specs.declared.table.Code.{Code}
 use Rattle.codes.specs.Limits.{longestMessage}
@@ -14,8 +14,8 @@ use Rattle.codes.specs.Codes.{lawful, blockLength}
 use Rattle.trellis.specs.Trellis.{Trellis, Path, Node, node, same, allowed, ends, metric}
 use Rattle.trellis.specs.Verdict.{Entry, entry}
 use Rattle.trellis.specs.Sheet.{onto}
-use Rattle.sheets.specs.Bytes.{series, entriesPlace, entryAt}
-use Rattle.sheets.specs.Checking.{rising, inTrellis}
+use Rattle.sheets.specs.Bytes.{series, numberAt, countPlace, entriesPlace, entryAt}
+use Rattle.sheets.specs.Checking.{rising, inTrellis, formed}
 
 -- ---- the entries
 
@@ -48,10 +48,12 @@ unfoldable pub early : List ℕ → ℕ → Path
 early message zero = []
 early message (suc k) = getD message k 0 ∷ early message k
 
--- the states and the metrics of a message's path, from the origin to a level
+-- the states and the metrics of a message's path, from the origin to a level, all as small as a sheet's
 pub record Walked (t : Trellis) (message : List ℕ) (level : ℕ) (states metrics : List ℕ) : Type 0 where
   pub states-at : (j : ℕ) → j ≤ level → getD states j 0 ≡ ends t (early message j)
+  pub states-small : (j : ℕ) → j ≤ level → getD states j 0 < 65536
   pub metrics-at : (j : ℕ) → j ≤ level → getD metrics j 0 ≡ metric t (early message j)
+  pub metrics-small : (j : ℕ) → j ≤ level → getD metrics j 0 < absent
 
 -- C at a level: the path's node is listed, its cost the metric so far
 abbrev pub onPath : List Entry → List ℕ → List ℕ → ℕ → Bool
@@ -77,6 +79,13 @@ passing t es m states metrics e b =
 -- both, for every branch of an entry
 unfoldable pub allPassing : Trellis → List Entry → ℕ → List ℕ → List ℕ → Entry → Bool
 allPassing t es m states metrics e = all (passing t es m states metrics e) (below (allowed t (e .node .level)))
+
+-- all that the check tests of a claim: C at each level, 'the last is M', then B and D
+unfoldable pub tested : Trellis → List Entry → ℕ → List ℕ → List ℕ → ℕ → Bool
+tested t es m states metrics top =
+    all (onPath es states metrics) (series (top + 1) (λ j. j)) &&
+    eqb (getD metrics top 0) m &&
+    all (allPassing t es m states metrics) es
 
 -- ---- what the parts ask of their callers
 
@@ -110,6 +119,28 @@ pub record Branching (c : Code) (l : ℕ) (block bytes states metrics : List ℕ
   pub inside : all (inTrellis c l) (entriesIn bytes) ≡ true
   pub room : l + c .memory < length states
   pub more : l + c .memory < length metrics
+
+-- the same with the whole sheet, and states of two bytes
+pub record Ready (c : Code) (l : ℕ) (block bytes states metrics : List ℕ) : Type 0 where
+  pub size : length bytes ≡ entriesPlace l + 8 * numberAt 2 countPlace bytes
+  pub branching : Branching c l block (drop (entriesPlace l) bytes) states metrics
+  pub small : (j : ℕ) → j ≤ l + c .memory → getD states j 0 < 65536
+
+-- a code, a length and a sheet, before its form is tested
+pub record Askable (c : Code) (l : ℕ) : Type 0 where
+  pub code : lawful c ≡ true
+  pub some : 1 ≤ l
+  pub span : l ≤ longestMessage
+
+-- a code, so many symbols and a sheet of good form
+pub record Checkable (c : Code) (l symbols : ℕ) (bytes : List ℕ) : Type 0 where
+  pub askable : Askable c l
+  pub full : symbols ≡ blockLength c l
+  pub form : formed c l bytes ≡ true
+
+-- a buffer of so many bytes at least
+abbrev pub Room : ℕ → List ℕ → Type 0
+Room n buffer = n ≤ length buffer
 
 -- one of the entries
 abbrev pub Place : List ℕ → ℕ → Type 0

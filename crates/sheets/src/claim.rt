@@ -23,7 +23,7 @@ ghost use Rattle.blocks.specs.Symbols.{view};
 ghost use Rattle.blocks.specs.Blocks.{trellisOf};
 ghost use Rattle.sheets.specs.Bytes.{entryAt, sheetRead};
 ghost use Rattle.sheets.specs.Checking.{rising, carried};
-ghost use Rattle.sheets.specs.Steps.{entriesIn, onward, clear, allPassing, Branching, Place};
+ghost use Rattle.sheets.specs.Steps.{entriesIn, onward, clear, allPassing, tested, Branching, Ready, Checkable, Place};
 
 // B for a branch to a node at a cost in all, which may be any sum of two numbers of 32 bits.
 fn goes_on(entries: &[u8], metric: u64, level: u64, state: u64, total: u64) -> bool
@@ -111,4 +111,51 @@ fn entries_pass(
         i += 1;
     }
     true
+}
+
+// All tests of a claim, once the path is walked. A is C at the origin.
+fn tests_pass(
+    code: Code,
+    length: usize,
+    seen: &[u16],
+    sheet: &[u8],
+    states: &[u64],
+    metrics: &[u64],
+) -> bool
+    requires { ⌜ Ready code length (now seen) (now sheet) (now states) (now metrics) ⌝ }
+    ensures { λ r. ⌜ r ≡ tested (trellisOf code length (seenIn (now (seen .entry)))) (sheetRead length (now (sheet .entry)) .entries) (sheetRead length (now (sheet .entry)) .metric) (now (states .entry)) (now (metrics .entry)) (length + code .memory) ⌝ }
+{
+    let place = entries_place(length);
+    let entries = &sheet[place..];
+    let top = length + code.memory as usize;
+    if !path_listed(entries, states, metrics, top) {
+        return false;
+    }
+    let metric = number32(sheet, 8) as u64;
+    if metrics[top] != metric {
+        return false;
+    }
+    entries_pass(code, length, metric, seen, entries, states, metrics)
+}
+
+// Whether a sheet of good form carries its claim for a block of plain numbers.
+fn holds(code: Code, length: usize, seen: &[u16], sheet: &[u8]) -> bool
+    requires { do ⌜ Checkable code length (← ⟦seen.len()⟧) (now sheet) ⌝ }
+    ensures { λ r. ⌜ r ≡ carried (trellisOf code length (seenIn (now (seen .entry)))) (sheetRead length (now (sheet .entry))) ⌝ }
+{
+    let mut states = [0u64; 217];
+    let mut metrics = [0u64; 217];
+    walk(code, length, seen, sheet, &mut states, &mut metrics);
+    tests_pass(code, length, seen, sheet, &states, &metrics)
+}
+
+// Whether a sheet of good form carries its claim.
+pub fn carries(code: Code, length: usize, symbols: &[i8], sheet: &[u8]) -> bool
+    requires { do ⌜ Checkable code length (← ⟦symbols.len()⟧) (now sheet) ⌝ }
+    ensures { λ r. ⌜ r ≡ carried (trellisOf code length (view (now (symbols .entry)))) (sheetRead length (now (sheet .entry))) ⌝ }
+{
+    let mut seen = [0u16; 864];
+    see(symbols, &mut seen);
+    let n = symbols.len();
+    holds(code, length, &seen[..n], sheet)
 }

@@ -5,7 +5,7 @@ use mathlib.Core.List.{List}
 use Prim.Native.Nat.{ℕ, _+_, _-_, _*_, _^_, _≤_, _<_}
 use native.Mathlib.Omega.{arith}
 use lib.ListN.{length, getD, set, length-set}
-use lib.Pow.{pow-pos}
+use lib.Pow.{pow-pos, pow-mono}
 use lib.Seq.{getD-set-same}
 use Rattle.codes.proofs.Rules.{Bounds, lawful-out}
 use Rattle.trellis.specs.Trellis.{Trellis}
@@ -127,7 +127,9 @@ loop-again c =
       length-set (a .loop .states) (a .loop .level + 1) (c .next .result) ∙ a .loop .inv .1,
       length-set (a .loop .metrics) (a .loop .level + 1) (a .loop .metric + p .price .result) ∙ a .loop .inv .2,
       walking-next (trellis s) (message s) greatestPrice (2 ^ s .args .code .memory) (a .loop .states) (a .loop .metrics) (a .loop .state) (a .loop .metric) (a .loop .level) (a .loop .inv .3)
-          (p .before .input .result) (p .price .result) (c .next .result) (p .before .input .ensures .0) (p .price .ensures .0) (c .next .ensures .0) (p .price .ensures .1) (c .next .ensures .1) (room w) (more w),
+          (p .before .input .result) (p .price .result) (c .next .result) (p .before .input .ensures .0) (p .price .ensures .0) (c .next .ensures .0) (p .price .ensures .1) (c .next .ensures .1)
+          (omega (arith, c .next .ensures .1, pow-mono {i = s .args .code .memory} {j = 16} (bounds s .memory-most)))
+          (omega (arith, few w, a .loop .inv .3 .small, p .price .ensures .1)) (room w) (more w),
     )
 
 same-length : tie.Need-same-length Inv-loop μ-loop
