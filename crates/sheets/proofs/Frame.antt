@@ -19,7 +19,7 @@ use Rattle.sheets.proofs.Written.{sheetSize, length-following, length-s
 
 -- ---- the same bytes
 
-alike-test : (xs ys : List ℕ) → Decides (alike xs ys) (xs ≡ ys)
+pub alike-test : (xs ys : List ℕ) → Decides (alike xs ys) (xs ≡ ys)
 unfolding alike
 alike-test [] [] = record { out = (λ h. refl); into = (λ e. tt) }
 alike-test [] (y ∷ ys) = record { out = (λ h. absurd h); into = (λ e. let z : _≡_ {A = ℕ} 0 1 = cc in absurd (omega arith)) }

@@ -11,3 +11,5 @@ pub mod Inputs
 pub mod Early
 pub mod Claims
 pub mod Rows
+pub mod Accepted
+pub mod HonestSheet
