@@ -12,10 +12,11 @@ use Rattle.lists.proofs.Decides.{Decides, said, both, equal}
 use Rattle.trellis.specs.Verdict.{Entry}
 use Rattle.sheets.specs.Bytes.{Sheet, series, bytesOf, kind, messageSize, octet, messageBytes, entryBytes, following, sheetBytes, numberAt, metricPlace, countPlace, messagePlace, entriesPlace, bitAt, entryAt, sheetRead}
 use Rattle.sheets.specs.Checking.{alike, framed}
+use Rattle.sheets.specs.Steps.{sheetSize}
 use Rattle.sheets.proofs.Series.{length-series, series-same, series-stands}
 use Rattle.sheets.proofs.Numbers.{Bytes, number-stands, numberAt-below}
 use Rattle.sheets.proofs.Octets.{used, octet-read}
-use Rattle.sheets.proofs.Written.{sheetSize, length-following, length-sheetBytes, message-byte}
+use Rattle.sheets.proofs.Written.{length-following, length-sheetBytes, message-byte}
 
 -- ---- the same bytes
 

@@ -11,6 +11,7 @@ use Rattle.trellis.specs.Verdict.{Entry, entry}
 use Rattle.trellis.proofs.Paths.{node-path}
 use Rattle.trellis.proofs.Order.{entry-path}
 use Rattle.sheets.specs.Bytes.{Sheet, series, bytesOf, messageSize, octet, messageBytes, entryBytes, following, sheetBytes, numberAt, metricPlace, countPlace, messagePlace, entriesPlace, bitAt, entryAt, sheetRead}
+use Rattle.sheets.specs.Steps.{sheetSize}
 use Rattle.sheets.proofs.Series.{length-series, getD-series, series-same}
 use Rattle.sheets.proofs.Numbers.{numberAt-drop}
 use Rattle.sheets.proofs.Octets.{Bits, octet-bit}
@@ -21,10 +22,6 @@ pub length-entries : (es : List Entry) → length (flatMap entryBytes es) ≡ 8 
 unfolding flatMap bytesOf
 length-entries [] = omega arith
 length-entries (e ∷ es) = omega (arith, length-entries es)
-
--- the size of a sheet of so many entries
-abbrev pub sheetSize : ℕ → ℕ → ℕ
-sheetSize l count = entriesPlace l + 8 * count
 
 pub length-following : (l : ℕ) (s : Sheet) → length (following l s) + 4 ≡ sheetSize l (length (s .entries))
 unfolding following bytesOf

@@ -2,9 +2,9 @@
 -- message's path level by level, and the tests of one branch. Not for the reader: what the check answers is said in Checking alone.
 -- Assumes nothing.
 use mathlib.Core.Path.{_≡_}
-use mathlib.Core.List.{List, [], _∷_}
+use mathlib.Core.List.{List, [], _∷_, _++_}
 use mathlib.Core.Bool.{Bool, true, cond, not, _&&_, _||_}
-use Prim.Native.Nat.{ℕ, zero, suc, _+_, _*_, _/_, _≤_, _<_}
+use Prim.Native.Nat.{ℕ, zero, suc, _+_, _-_, _*_, _/_, _≤_, _<_}
 use lib.Dec.{eqb, ltb, leb}
 use lib.ListN.{length, getD, drop}
 use Rattle.lists.specs.Lists.{all, below}
@@ -14,8 +14,14 @@ use Rattle.codes.specs.Codes.{lawful, blockLength}
 use Rattle.trellis.specs.Trellis.{Trellis, Path, Node, node, same, allowed, ends, metric}
 use Rattle.trellis.specs.Verdict.{Entry, entry}
 use Rattle.trellis.specs.Sheet.{onto}
-use Rattle.sheets.specs.Bytes.{series, numberAt, countPlace, entriesPlace, entryAt}
-use Rattle.sheets.specs.Checking.{rising, inTrellis, formed}
+use Rattle.sheets.specs.Bytes.{series, bytesOf, kind, numberAt, countPlace, entriesPlace, entryAt}
+use Rattle.sheets.specs.Checking.{mostEntries, rising, inTrellis, formed}
+
+-- ---- the size
+
+-- the size of a sheet of so many entries
+abbrev pub sheetSize : ℕ → ℕ → ℕ
+sheetSize l count = entriesPlace l + 8 * count
 
 -- ---- the entries
 
@@ -87,7 +93,20 @@ tested t es m states metrics top =
     eqb (getD metrics top 0) m &&
     all (allPassing t es m states metrics) es
 
--- ---- what the parts ask of their callers
+-- ---- a sheet that is put into a buffer
+
+-- the numbers in front of a sheet of so many entries
+unfoldable pub headBytes : ℕ → ℕ → ℕ → List ℕ
+headBytes l metric count =
+    bytesOf 4 (sheetSize l count - 4) ++ (bytesOf 2 kind ++ bytesOf 2 l ++ bytesOf 4 metric ++ bytesOf 2 count)
+
+-- what the parts of a sheet ask of a buffer
+pub record Puttable (l count : ℕ) (buffer : List ℕ) : Type 0 where
+  pub span : l ≤ longestMessage
+  pub most : count ≤ mostEntries
+  pub room : sheetSize l count ≤ length buffer
+
+-- ---- what the parts of the check ask of their callers
 
 -- a sheet whose message is all there
 pub record Whole (l : ℕ) (bytes : List ℕ) : Type 0 where

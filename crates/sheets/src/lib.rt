@@ -5,3 +5,4 @@ mod claim;
 mod entries;
 mod form;
 mod path;
+pub mod put;
