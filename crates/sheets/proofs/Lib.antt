@@ -13,3 +13,4 @@ pub mod Claims
 pub mod Rows
 pub mod Accepted
 pub mod HonestSheet
+pub mod Putting
