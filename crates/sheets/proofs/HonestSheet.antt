@@ -30,16 +30,12 @@ use Rattle.blocks.specs.Blocks.{trellisOf}
 use Rattle.blocks.proofs.Closing.{trellis-lawful, state-below}
 use Rattle.blocks.proofs.Weights.{Tested, leastMetric-greatest}
 use Rattle.sheets.specs.Bytes.{Sheet, sheetBytes, sheetRead}
-use Rattle.sheets.specs.Checking.{alike, framed, mostEntries, rising, inTrellis, formed, carried, handed, sizesFit, checking}
+use Rattle.sheets.specs.Checking.{alike, framed, mostEntries, rising, inTrellis, formed, carried, honestSheet, handed, sizesFit, checking}
 use Rattle.sheets.proofs.Octets.{Bits}
 use Rattle.sheets.proofs.Written.{EntryFits, Fits, read-written}
 use Rattle.sheets.proofs.Frame.{alike-test}
 use Rattle.sheets.proofs.Listing.{getD-in, rising-test}
 use Rattle.sheets.proofs.Rows.{Formed, formed-in, sizes-test, checking-accepted}
-
--- the honest sheet of a trellis for a message
-abbrev pub honestSheet : Trellis → List ℕ → Sheet
-honestSheet t w = record { metric = leastMetric t; message = w; entries = honest t (leastMetric t) }
 
 -- What is asked: a block of its own code, a buffer with room, one least message, and not too many entries.
 pub record Answerable (c : Code) (l : ℕ) (symbols : List ℤ) (w message : List ℕ) : Type 0 where

@@ -11,8 +11,8 @@ use Rattle.codes.specs.declared.table.Code.{Code}
 use Rattle.codes.specs.Limits.{shortestMessage, longestMessage}
 use Rattle.codes.specs.Codes.{from, lawful, blockLength}
 use Rattle.trellis.specs.Trellis.{Trellis, Node}
-use Rattle.trellis.specs.Verdict.{Entry, earlier, pathOf}
-use Rattle.trellis.specs.Sheet.{carries}
+use Rattle.trellis.specs.Verdict.{Entry, earlier, pathOf, leastMetric}
+use Rattle.trellis.specs.Sheet.{carries, honest}
 use Rattle.blocks.specs.Symbols.{view}
 use Rattle.blocks.specs.Blocks.{trellisOf}
 use Rattle.sheets.specs.Bytes.{Sheet, sheetBytes, sheetRead}
@@ -60,6 +60,10 @@ formed c l bytes =
 -- A to D, for the sheet's metric, entries and the path of its message
 unfoldable pub carried : Trellis → Sheet → Bool
 carried t s = carries t (s .metric) (s .entries) (pathOf t (s .message))
+
+-- 'An honest sheet lists exactly the reachable nodes of cost at most M, terminal included, with their costs': that of a message
+abbrev pub honestSheet : Trellis → List ℕ → Sheet
+honestSheet t w = record { metric = leastMetric t; message = w; entries = honest t (leastMetric t) }
 
 -- ---- the answer
 
