@@ -1,3 +1,4 @@
 pub mod Encoder
 pub mod Decoder
+pub mod Check
 pub mod Front

@@ -5,6 +5,7 @@ use Prim.Native.Nat.{ℕ}
 use Rattle.codes.specs.Encoding.{Encoding}
 use Rattle.codes.specs.declared.table.Code as codes
 use Rattle.search.specs.Decoding.{Decoding}
+use Rattle.sheets.specs.Checking.{Checking}
 use Rattle.plumtassel.specs.declared.Code.{Code}
 use Rattle.plumtassel.specs.declared.Answer.{Answer}
 
@@ -26,3 +27,7 @@ encoded e = (record { number = e .number; metric = 0; steps = 0; length = e .sym
 -- what the decoder hands back, and the message buffer
 abbrev pub decoded : Decoding → Answer × List ℕ
 decoded d = (record { number = d .number; metric = d .metric; steps = d .steps; length = 0 }, d .message)
+
+-- what the check hands back, and the message buffer
+abbrev pub checked : Checking → Answer × List ℕ
+checked k = (record { number = k .number; metric = k .metric; steps = 0; length = 0 }, k .message)

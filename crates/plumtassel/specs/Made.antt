@@ -12,6 +12,8 @@ use Rattle.front.specs.declared.Fronted.{Fronted}
 use Rattle.front.specs.declared.Fronted.the-variants as fronted
 use Rattle.search.specs.declared.decoder.Decoded.{Decoded}
 use Rattle.search.specs.declared.decoder.Decoded.the-variants as decoded
+use Rattle.sheets.specs.declared.check.Checked.{Checked}
+use Rattle.sheets.specs.declared.check.Checked.the-variants as checked
 use Rattle.plumtassel.specs.declared.Answer.{Answer}
 use Rattle.plumtassel.specs.declared.FrontEnd.{FrontEnd}
 use Rattle.plumtassel.specs.declared.Report.{Report}
@@ -37,6 +39,13 @@ decoderAnswer decoded.BadSize = refusal 2
 decoderAnswer (decoded.NoRoom steps) = searchAnswer 3 0 steps
 decoderAnswer (decoded.NoAllowance steps) = searchAnswer 4 0 steps
 decoderAnswer (decoded.Tied metric steps) = searchAnswer 5 metric steps
+
+abbrev pub checkAnswer : Checked → Answer
+checkAnswer (checked.Accepted metric) = searchAnswer 0 metric 0
+checkAnswer checked.BadCode = refusal 1
+checkAnswer checked.BadSize = refusal 2
+checkAnswer checked.Malformed = refusal 6
+checkAnswer checked.NotCarried = refusal 7
 
 -- the front end of a form; a gain of zero stands for a form that there is none of
 unfoldable pub choice : FrontEnd → front.FrontEnd

@@ -7,15 +7,18 @@ use front::Fronted;
 use front::front;
 use search::decoder::Decoded;
 use search::decoder::decode;
+use sheets::check::Checked;
+use sheets::check::check;
 ghost use mathlib.Core.Path.{_≡_};
 ghost use Prim.Native.Nat.{_≤_};
 ghost use Rattle.codes.specs.Codes.{houseCode};
 ghost use Rattle.codes.specs.Encoding.{encoding};
 ghost use Rattle.front.specs.Limits.{mostReadings};
 ghost use Rattle.search.specs.Decoding.{decoding};
-ghost use Rattle.plumtassel.specs.Face.{faceCode, codeOf, refusal, encoded, decoded};
+ghost use Rattle.sheets.specs.Checking.{checking};
+ghost use Rattle.plumtassel.specs.Face.{faceCode, codeOf, refusal, encoded, decoded, checked};
 ghost use Rattle.plumtassel.specs.Fronts.{fronting, reported};
-ghost use Rattle.plumtassel.specs.Made.{longestBlock, encoderAnswer, searchAnswer, decoderAnswer, choice, refusedReading, frontReport};
+ghost use Rattle.plumtassel.specs.Made.{longestBlock, encoderAnswer, searchAnswer, decoderAnswer, checkAnswer, choice, refusedReading, frontReport};
 
 // n outputs, memory m, and room for four generators, of which the first n count.
 #[repr(C)]
@@ -103,6 +106,21 @@ pub extern "C" fn plumtassel_decode(
     decoder_answer(answer)
 }
 
+// Checks a sheet for a block: accepted, its message is the only one of least metric.
+#[no_mangle]
+pub extern "C" fn plumtassel_check(
+    code: Code,
+    length: usize,
+    symbols: &[i8],
+    sheet: &[u8],
+    message: &mut [u8],
+) -> Answer
+    ensures { λ r. ⌜ (r, now (message .exit)) ≡ checked (checking (codeOf code) length (now (symbols .entry)) (now (sheet .entry)) (now (message .entry))) ⌝ }
+{
+    let answer = check(opened(code), length, symbols, sheet, message);
+    check_answer(answer)
+}
+
 // A block of readings to symbols, one each, with the report.
 #[no_mangle]
 pub extern "C" fn plumtassel_front(
@@ -157,6 +175,19 @@ fn decoder_answer(answer: Decoded) -> Answer
         Decoded::NoRoom { steps } => answered(3, 0, steps),
         Decoded::NoAllowance { steps } => answered(4, 0, steps),
         Decoded::Tied { metric, steps } => answered(5, metric, steps),
+    }
+}
+
+// The answer of `check` as the caller takes it.
+fn check_answer(answer: Checked) -> Answer
+    ensures { λ r. ⌜ r ≡ checkAnswer answer ⌝ }
+{
+    match answer {
+        Checked::Accepted(metric) => answered(0, metric, 0),
+        Checked::BadCode => refused(1),
+        Checked::BadSize => refused(2),
+        Checked::Malformed => refused(6),
+        Checked::NotCarried => refused(7),
     }
 }
 

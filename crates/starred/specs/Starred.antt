@@ -4,15 +4,18 @@ use mathlib.Core.Path.{_≡_, refl}
 use mathlib.Core.List.{List, [], _∷_, map, flatMap}
 use Prim.Native.Nat.{ℕ}
 use lib.Count.{ones, onesIn}
-use lib.ListN.{replicate}
+use lib.ListN.{take, set, replicate}
 use lib.IntN.{ℤ, pos, negℤ}
 use Rattle.lists.specs.Lists.{all, any, keep, distinct, insert, sort, below, least}
 use Rattle.codes.specs.Codes.{houseCodes, houseCode, lawful, outputsFrom, codeword}
 use Rattle.codes.specs.Encoding.{Encoding, handed, encoding}
 use Rattle.trellis.specs.Trellis.{Trellis, metric, allowed, ends, along, paths, pathsTo, cost, reachable, successors}
 use Rattle.trellis.specs.Verdict.{Verdict, answered, roomShort, allowanceSpent, tied, ranked, steps, met, words, messages, pathOf, leastMetric, leastMessages, lastFit, decided, verdict}
+use Rattle.trellis.specs.Sheet.{listedAs, listedWithin, conditionA, conditionB, conditionC, conditionD, carries, honest}
 use Rattle.blocks.specs.Symbols.{weight, view}
 use Rattle.blocks.specs.Blocks.{trellisOf, distance, branchCost}
+use Rattle.sheets.specs.Bytes.{series, bytesOf, octet, following, sheetBytes, numberAt, sheetRead}
+use Rattle.sheets.specs.Checking.{alike, rising, framed, formed, carried, honestSheet, Checking, handed as given, checking}
 
 -- ---- what is asked, and what comes back
 
@@ -27,6 +30,10 @@ pub data Question : Type 0 where
   measure : (symbols : List ℤ) (message : List ℕ) → Question
   -- the weights of symbols
   weigh : (symbols : List ℤ) → Question
+  -- write the honest sheet of a block with L=1 for a message
+  sheet : (symbols : List ℤ) (message : List ℕ) → Question
+  -- check a sheet for a block with L=1, the message buffer one byte, 9
+  check : (symbols : List ℤ) (bytes : List ℕ) → Question
 
 pub data Reply : Type 0 where
   encoded : Encoding → Reply
@@ -35,6 +42,8 @@ pub data Reply : Type 0 where
   decoded : (number metric steps : ℕ) (message : List ℕ) → Reply
   measured : ℕ → Reply
   weighed : List ℕ → Reply
+  wrote : List ℕ → Reply
+  checked : Checking → Reply
 
 -- the output sequences of a codeword of two generators
 unfoldable pub first : List ℕ → List ℕ
@@ -64,6 +73,8 @@ reply (sequences message) = apart (first (codeword (houseCode 0) message)) (seco
 reply (decode symbols room allowance) = desk (verdict (tried symbols) room allowance)
 reply (measure symbols message) = measured (metric (tried symbols) (pathOf (tried symbols) message))
 reply (weigh symbols) = weighed (map weight symbols)
+reply (sheet symbols message) = wrote (sheetBytes 1 (honestSheet (tried symbols) message))
+reply (check symbols bytes) = checked (checking (houseCode 0) 1 symbols bytes (9 ∷ []))
 
 -- ---- the list
 
@@ -85,6 +96,15 @@ block = pos 3 ∷ minus 5 ∷ minus 2 ∷ pos 1 ∷ minus 4 ∷ minus 6 ∷ []
 
 abbrev pub sixZeros : List ℤ
 sixZeros = pos 0 ∷ pos 0 ∷ pos 0 ∷ pos 0 ∷ pos 0 ∷ pos 0 ∷ []
+
+-- 'Case 4's whole sheet, 47 bytes in hexadecimal'
+abbrev pub wholeSheet : List ℕ
+wholeSheet =
+    0x2B ∷ 0x00 ∷ 0x00 ∷ 0x00 ∷ 0x01 ∷ 0x01 ∷ 0x01 ∷ 0x00 ∷ 0x03 ∷ 0x00 ∷ 0x00 ∷ 0x00 ∷ 0x04 ∷ 0x00 ∷ 0x80 ∷
+    0x00 ∷ 0x00 ∷ 0x00 ∷ 0x00 ∷ 0x00 ∷ 0x00 ∷ 0x00 ∷ 0x00 ∷
+    0x01 ∷ 0x00 ∷ 0x02 ∷ 0x00 ∷ 0x03 ∷ 0x00 ∷ 0x00 ∷ 0x00 ∷
+    0x02 ∷ 0x00 ∷ 0x01 ∷ 0x00 ∷ 0x03 ∷ 0x00 ∷ 0x00 ∷ 0x00 ∷
+    0x03 ∷ 0x00 ∷ 0x00 ∷ 0x00 ∷ 0x03 ∷ 0x00 ∷ 0x00 ∷ 0x00 ∷ []
 
 unfoldable pub cases : List Case
 cases =
@@ -108,7 +128,12 @@ cases =
     -- '-1 -1 2 9 0 0, R=6, B=5: 5, metric 2, steps 5.'
     case 11 (decode (minus 1 ∷ minus 1 ∷ pos 2 ∷ pos 9 ∷ pos 0 ∷ pos 0 ∷ []) 6 5) (decoded 5 2 5 []) ∷
     -- 'Weights of -128, -1, 0, 127: 128, 1, 0, 127.'
-    case 13 (weigh (minus 128 ∷ minus 1 ∷ pos 0 ∷ pos 127 ∷ [])) (weighed (128 ∷ 1 ∷ 0 ∷ 127 ∷ [])) ∷ []
+    case 13 (weigh (minus 128 ∷ minus 1 ∷ pos 0 ∷ pos 127 ∷ [])) (weighed (128 ∷ 1 ∷ 0 ∷ 127 ∷ [])) ∷
+    -- 'It is accepted; with its last byte missing, 6; with its metric byte made 04, 7.'
+    case 14 (sheet block (1 ∷ [])) (wrote wholeSheet) ∷
+    case 14 (check block wholeSheet) (checked (given 0 3 (1 ∷ []))) ∷
+    case 14 (check block (take 46 wholeSheet)) (checked (given 6 0 (9 ∷ []))) ∷
+    case 14 (check block (set wholeSheet 8 0x04)) (checked (given 7 0 (9 ∷ []))) ∷ []
 
 -- ---- the claim
 
@@ -116,4 +141,6 @@ pub starred-hold : map (λ c. reply (c .question)) cases ≡ map (λ (c : Case).
 unfolding cases reply first second desk flatMap all keep distinct insert sort below least any lawful houseCodes houseCode outputsFrom codeword encoding ones onesIn
     allowed ends along paths pathsTo cost reachable successors ranked steps met words messages pathOf leastMetric leastMessages lastFit decided verdict
     view distance branchCost
+    listedAs listedWithin conditionA conditionB conditionC conditionD carries honest
+    series bytesOf octet following sheetBytes numberAt sheetRead alike rising framed formed carried checking
 starred-hold = refl

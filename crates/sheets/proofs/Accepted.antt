@@ -1,0 +1,87 @@
+-- What acceptance proves, in the contract's own words: a sheet that `check` accepts, whoever wrote it, has the only message of least
+-- metric, and the metric given is that least metric. That honest sheets are accepted is in HonestSheet. Assumes nothing.
+use mathlib.Core.Path.{_≡_, refl, sym, ap, _∙_, subst, subst₂}
+use mathlib.Core.Logic.{_⊎_, inl, inr}
+use mathlib.Core.List.{List, [], _∷_, _++_}
+use mathlib.Core.Bool.{Bool, true, false}
+use Prim.Native.Nat.{ℕ, zero, suc, _<_}
+use native.Mathlib.Omega.{arith}
+use lib.IntN.{ℤ}
+use lib.ListN.{length, take, drop}
+use lib.Seq.{take-at}
+use Rattle.lists.specs.Lists.{_∈_}
+use Rattle.lists.proofs.Membership.{nil-out, Every, every-cons}
+use Rattle.codes.specs.declared.table.Code.{Code}
+use Rattle.codes.specs.Codes.{lawful}
+use Rattle.trellis.specs.Trellis.{Trellis}
+use Rattle.trellis.specs.Verdict.{words, messages}
+use Rattle.trellis.proofs.Messages.{words-in}
+use Rattle.trellis.proofs.SheetSound.{Alone, sheet-sound}
+use Rattle.blocks.specs.Symbols.{view}
+use Rattle.blocks.specs.Blocks.{trellisOf}
+use Rattle.blocks.proofs.Closing.{trellis-lawful}
+use Rattle.sheets.specs.Bytes.{series, bitAt, sheetRead}
+use Rattle.sheets.specs.Checking.{formed, carried, Checking, handed, sizesFit, checking}
+use Rattle.sheets.proofs.Series.{length-series}
+use Rattle.sheets.proofs.Rows.{checking-code, checking-size, checking-form, checking-claim, checking-accepted}
+
+-- ---- the message is one of the messages
+
+every-series : {A : Type 0} (P : A → Type 0) (n : ℕ) (f : ℕ → A) → ((i : ℕ) → P (f i)) → Every P (series n f)
+unfolding series
+every-series P zero f h = λ a m. absurd (nil-out m)
+every-series P (suc n) f h = every-cons P (h 0) (every-series P n (λ i. f (suc i)) (λ i. h (suc i)))
+
+message-read : (c : Code) (l : ℕ) (symbols : List ℤ) (bytes : List ℕ) → sheetRead l bytes .message ∈ messages (trellisOf c l (view symbols))
+unfolding sheetRead messages
+message-read c l symbols bytes =
+    subst (λ (k : ℕ). series l (bitAt bytes) ∈ words 2 k) (length-series l (bitAt bytes))
+    (words-in 2 (series l (bitAt bytes)) (every-series (λ b. b < 2) l (bitAt bytes) (λ i. omega arith)))
+
+-- ---- the number 0
+
+split : (b : Bool) → (b ≡ true) ⊎ (b ≡ false)
+split true = inl refl
+split false = inr refl
+
+module _ (c : Code) (l : ℕ) (symbols : List ℤ) (bytes message : List ℕ) where
+  abbrev answer : Checking
+  answer = checking c l symbols bytes message
+
+  abbrev t : Trellis
+  t = trellisOf c l (view symbols)
+
+  -- all tests passed
+  pub record Passed : Type 0 where
+    pub code : lawful c ≡ true
+    pub sizes : sizesFit c l (length symbols) (length message) ≡ true
+    pub form : formed c l bytes ≡ true
+    pub claim : carried t (sheetRead l bytes) ≡ true
+
+  -- no other answer has the number 0
+  other : (n m : ℕ) → answer ≡ handed (suc n) m message → answer .number ≡ 0 → ⊥
+  other n m e z = let k : suc n ≡ 0 = ap (λ (x : Checking). x .number) (sym e) ∙ z in omega arith
+
+  pub accepted-passed : answer .number ≡ 0 → Passed
+  accepted-passed z = go (split (lawful c)) (split (sizesFit c l (length symbols) (length message))) (split (formed c l bytes)) (split (carried t (sheetRead l bytes)))
+    where
+      go : (lawful c ≡ true) ⊎ (lawful c ≡ false) → (sizesFit c l (length symbols) (length message) ≡ true) ⊎ (sizesFit c l (length symbols) (length message) ≡ false)
+          → (formed c l bytes ≡ true) ⊎ (formed c l bytes ≡ false) → (carried t (sheetRead l bytes) ≡ true) ⊎ (carried t (sheetRead l bytes) ≡ false) → Passed
+      go (inr h) s f q = absurd (other 0 0 (checking-code c l symbols bytes message h) z)
+      go (inl h) (inr s) f q = absurd (other 1 0 (checking-size c l symbols bytes message h s) z)
+      go (inl h) (inl s) (inr f) q = absurd (other 5 0 (checking-form c l symbols bytes message h s f) z)
+      go (inl h) (inl s) (inl f) (inr q) = absurd (other 6 0 (checking-claim c l symbols bytes message h s f q) z)
+      go (inl h) (inl s) (inl f) (inl q) = record { code = h; sizes = s; form = f; claim = q }
+
+  -- Accepted: the L bytes in front of the buffer are the only message of least metric, and the metric given is that metric.
+  pub check-sound : answer .number ≡ 0 → Alone t (answer .metric) (take l (answer .message))
+  unfolding carried sheetRead
+  check-sound z =
+      let p : Passed = accepted-passed z in
+      let e : answer ≡ handed 0 (sheetRead l bytes .metric) (sheetRead l bytes .message ++ drop l message) =
+      checking-accepted c l symbols bytes message (p .code) (p .sizes) (p .form) (p .claim) in
+      subst₂ (Alone t) (ap (λ (x : Checking). x .metric) (sym e)) (sym (ap (λ (x : Checking). take l (x .message)) e ∙ front))
+      (sheet-sound (trellis-lawful c l (view symbols)) (sheetRead l bytes .entries) (message-read c l symbols bytes) (p .claim))
+    where
+      front : take l (sheetRead l bytes .message ++ drop l message) ≡ sheetRead l bytes .message
+      front = take-at (sheetRead l bytes .message) (drop l message) l (length-series l (bitAt bytes))

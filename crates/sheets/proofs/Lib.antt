@@ -1,0 +1,16 @@
+pub mod Series
+pub mod Numbers
+pub mod Octets
+pub mod Written
+pub mod Frame
+pub mod Agree
+pub mod Listing
+pub mod Costs
+pub mod Walks
+pub mod Inputs
+pub mod Early
+pub mod Claims
+pub mod Rows
+pub mod Accepted
+pub mod HonestSheet
+pub mod Putting

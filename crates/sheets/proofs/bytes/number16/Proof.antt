@@ -1,0 +1,49 @@
+-- `bytes::number16` meets its contract: two bytes, the lower first. Assumes nothing.
+use borrow.Author.Needs.{needs}
+use mathlib.Core.Path.{_≡_}
+use Prim.Native.Nat.{_+_}
+use native.Mathlib.Numerals.{add-one}
+use native.Mathlib.Omega.{arith}
+use Rattle.sheets.specs.Bytes.{numberAt}
+use Rattle.sheets.proofs.bytes.number16.Statement.{statement}
+use Rattle.sheets.proofs.bytes.number16.Tie as tie
+
+shared-slice-read-result : tie.Need-shared-slice-read-result
+shared-slice-read-result c = search needs
+
+cast-result : tie.Need-cast-result
+cast-result c = omega (arith, c .shared-slice-known .given (c .before .args .at))
+
+add-result : tie.Need-add-result
+add-result c = search needs
+
+shared-slice-read-result-2 : tie.Need-shared-slice-read-result-2
+shared-slice-read-result-2 c = search needs
+
+cast-result-2 : tie.Need-cast-result-2
+cast-result-2 c = omega (arith, c .shared-slice-known2 .given (c .before .before .args .at + 1))
+
+mul-result : tie.Need-mul-result
+mul-result c = omega (arith, c .shared-slice-known2 .given (c .before .before .args .at + 1))
+
+add-result-2 : tie.Need-add-result-2
+add-result-2 c =
+    let s = c .before .before in
+    omega (arith, c .shared-slice-known2 .given (s .args .at), c .shared-slice-known2 .given (s .args .at + 1))
+
+returns : tie.Need-returns
+unfolding numberAt
+returns c = rw add-one (omega arith)
+
+pub number16-spec : {M : Type 1} → statement M
+number16-spec =
+    tie.close
+    (tie.spec
+    shared-slice-read-result
+    cast-result
+    add-result
+    shared-slice-read-result-2
+    cast-result-2
+    mul-result
+    add-result-2
+    returns)

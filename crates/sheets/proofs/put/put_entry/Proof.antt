@@ -1,0 +1,56 @@
+-- `put::put_entry` meets its contract: level, state and cost one after the other. Assumes nothing.
+use borrow.Author.Needs.{needs}
+use mathlib.Core.Path.{_≡_, sym, ap, _∙_}
+use mathlib.Core.List.{List, _++_}
+use Prim.Native.Nat.{ℕ, _+_}
+use lib.Seq.{sets}
+use Rattle.lists.proofs.Writing.{sets-append}
+use Rattle.sheets.specs.Bytes.{bytesOf}
+use Rattle.sheets.proofs.put.put_entry.Statement.{statement}
+use Rattle.sheets.proofs.put.put_entry.Tie as tie
+
+put16-requires : tie.Need-put16-requires
+put16-requires c κs = search needs
+
+add-put16 : tie.Need-add-put16
+add-put16 c = search needs
+
+put16-requires-2 : tie.Need-put16-requires-2
+put16-requires-2 c κs = search needs
+
+add-put32 : tie.Need-add-put32
+add-put32 c = search needs
+
+put32-requires : tie.Need-put32-requires
+put32-requires c κs = search needs
+
+same-length : tie.Need-same-length
+same-length c = search needs
+
+returns : tie.Need-returns
+unfolding bytesOf
+returns c =
+    let third = c .before .before in
+    let second = third .before .before .before .before in
+    let first = second .before .before .before .before in
+    let s = first .before .before .before in
+    let at : ℕ = s .args .at in
+    let level : List ℕ = bytesOf 2 (s .args .level) in
+    let state : List ℕ = bytesOf 2 (s .args .state) in
+    let cost : List ℕ = bytesOf 4 (s .args .cost) in
+    third .put32 .ensures
+    ∙ ap (λ (l : List ℕ). sets l (at + 4) cost)
+    (second .put162 .ensures ∙ ap (λ (l : List ℕ). sets l (at + 2) state) (first .put16 .ensures) ∙ sym (sets-append (s .args .out .now) level state at))
+    ∙ sym (sets-append (s .args .out .now) (level ++ state) cost at)
+
+pub put-entry-spec : {M : Type 1} → statement M
+put-entry-spec =
+    tie.close
+    (tie.spec
+    put16-requires
+    add-put16
+    put16-requires-2
+    add-put32
+    put32-requires
+    same-length
+    returns)
