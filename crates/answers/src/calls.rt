@@ -13,6 +13,7 @@ use crate::record::OUTPUT;
 use crate::record::OUTPUTS;
 use crate::record::PAYLOAD;
 use crate::record::ROOM;
+use crate::record::SHEET_COUNT;
 use crate::record::THRESHOLD;
 use crate::record::WORDS;
 use crate::record::float;
@@ -22,6 +23,7 @@ use crate::record::size;
 use fields::symbols;
 use plumtassel::Code;
 use plumtassel::FrontEnd;
+use plumtassel::plumtassel_check;
 use plumtassel::plumtassel_decode;
 use plumtassel::plumtassel_encode;
 use plumtassel::plumtassel_front;
@@ -71,9 +73,9 @@ fn code(record: &[u8]) -> Code {
     }
 }
 
-// ---- kind 2
+// ---- kinds 2 and 4
 
-pub fn decode(record: &[u8]) -> bool {
+pub fn of_block(record: &[u8], kind: u32) -> bool {
     let count = size(record, COUNT);
     let end = PAYLOAD + count;
     if record.len() < end {
@@ -84,10 +86,13 @@ pub fn decode(record: &[u8]) -> bool {
     }
     let mut received = [0i8; MOST_SYMBOLS];
     symbols(&record[PAYLOAD..end], &mut received);
-    decode_received(record, &received[..count])
+    if kind == 4 {
+        return check(record, &received[..count], &record[end..]);
+    }
+    decode(record, &received[..count])
 }
 
-fn decode_received(record: &[u8], received: &[i8]) -> bool {
+fn decode(record: &[u8], received: &[i8]) -> bool {
     let words = size(record, WORDS);
     let length = size(record, OUTPUT);
     if MOST_WORDS < words {
@@ -113,6 +118,30 @@ fn decode_into(record: &[u8], received: &[i8], work: &mut [u64], message: &mut [
         &mut *message,
     );
     lines::answer(2, told, message);
+}
+
+fn check(record: &[u8], received: &[i8], sheet: &[u8]) -> bool {
+    let length = size(record, OUTPUT);
+    if sheet.len() != size(record, SHEET_COUNT) {
+        return false;
+    }
+    if MOST_MESSAGE < length {
+        return false;
+    }
+    let mut message = [UNTOUCHED; MOST_MESSAGE];
+    check_into(record, received, sheet, &mut message[..length]);
+    true
+}
+
+fn check_into(record: &[u8], received: &[i8], sheet: &[u8], message: &mut [u8]) {
+    let told = plumtassel_check(
+        code(record),
+        size(record, LENGTH),
+        received,
+        sheet,
+        &mut *message,
+    );
+    lines::answer(4, told, message);
 }
 
 // ---- kind 5

@@ -1,4 +1,4 @@
--- `calls::decode` is safe: the symbols that are lent are as many as were received. Assumes nothing.
+-- `calls::decode` is safe: the parts of the buffers that are lent have the lengths asked for. Assumes nothing.
 use mathlib.Core.Path.{sym}
 use borrow.Author.Needs.{needs}
 use lib.Seq.{length-take-le}
@@ -8,8 +8,8 @@ use Rattle.answers.proofs.calls.decode.Tie as tie
 size-requires : tie.Need-size-requires
 size-requires c κs = search needs
 
-add-end : tie.Need-add-end
-add-end c = search needs
+size-requires-2 : tie.Need-size-requires-2
+size-requires-2 c κs = search needs
 
 returns : tie.Need-returns
 returns c = search needs
@@ -17,29 +17,20 @@ returns c = search needs
 returns-2 : tie.Need-returns-2
 returns-2 c = search needs
 
-sub-symbols : tie.Need-sub-symbols
-sub-symbols c = search needs
+array-borrow-prefix-work : tie.Need-array-borrow-prefix-work
+array-borrow-prefix-work c = search needs
 
-part-symbols-start : tie.Need-part-symbols-start
-part-symbols-start c = search needs
+slice-aggregate-decode-into : tie.Need-slice-aggregate-decode-into
+slice-aggregate-decode-into c = sym (length-take-le _ _ (array-borrow-prefix-work (c .before)))
 
-part-symbols-end : tie.Need-part-symbols-end
-part-symbols-end c = search needs
+array-borrow-prefix-message : tie.Need-array-borrow-prefix-message
+array-borrow-prefix-message c = search needs
 
-slice-aggregate-symbols : tie.Need-slice-aggregate-symbols
-slice-aggregate-symbols c = search needs
+slice-aggregate-decode-into-2 : tie.Need-slice-aggregate-decode-into-2
+slice-aggregate-decode-into-2 c = sym (length-take-le _ _ (array-borrow-prefix-message (c .before)))
 
-symbols-requires : tie.Need-symbols-requires
-symbols-requires c κs = search needs
-
-array-share-prefix-received : tie.Need-array-share-prefix-received
-array-share-prefix-received c = search needs
-
-slice-aggregate-decode-received : tie.Need-slice-aggregate-decode-received
-slice-aggregate-decode-received c = sym (length-take-le _ _ (array-share-prefix-received (c .before)))
-
-decode-received-requires : tie.Need-decode-received-requires
-decode-received-requires c κs = search needs
+decode-into-requires : tie.Need-decode-into-requires
+decode-into-requires c κs = search needs
 
 returns-3 : tie.Need-returns-3
 returns-3 c = search needs
@@ -49,15 +40,12 @@ decode-spec =
     tie.close
     (tie.spec
     size-requires
-    add-end
+    size-requires-2
     returns
     returns-2
-    sub-symbols
-    part-symbols-start
-    part-symbols-end
-    slice-aggregate-symbols
-    symbols-requires
-    array-share-prefix-received
-    slice-aggregate-decode-received
-    decode-received-requires
+    array-borrow-prefix-work
+    slice-aggregate-decode-into
+    array-borrow-prefix-message
+    slice-aggregate-decode-into-2
+    decode-into-requires
     returns-3)
