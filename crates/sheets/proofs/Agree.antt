@@ -1,5 +1,5 @@
 -- Two tests that decide the same statement are the same: how a program's test is that of a definition. Assumes nothing.
-use mathlib.Core.Path.{_≡_, refl, sym}
+use mathlib.Core.Path.{_≡_, sym}
 use mathlib.Core.Bool.{Bool, true, false, _&&_}
 use lib.Dec.{T}
 use Rattle.lists.proofs.Tests.{true-out, false-out}

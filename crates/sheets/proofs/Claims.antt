@@ -1,7 +1,7 @@
 -- A to D as the check tests them: each node of the path listed at its metric, the last metric M, and two tests of every branch of
 -- every entry. A is C at the origin. Together they are `carries`. Assumes nothing.
 use mathlib.Core.Path.{_≡_, refl, sym, ap, _∙_, subst₂}
-use mathlib.Core.List.{List, [], _∷_}
+use mathlib.Core.List.{List, []}
 use mathlib.Core.Bool.{Bool, true}
 use Prim.Native.Nat.{ℕ, zero, suc, _+_, _≤_, _<_}
 use native.Mathlib.Nat.{suc-inj}
@@ -9,7 +9,6 @@ use native.Mathlib.Numerals.{add-one}
 use native.Mathlib.Decide.{decLe}
 use native.Mathlib.Omega.{arith}
 use borrow.Author.Tests.{lt-ltb, le-ltb}
-use lib.Dec.{eqb}
 use lib.ListN.{length, getD}
 use Rattle.lists.specs.Lists.{_∈_, all}
 use Rattle.lists.proofs.Tests.{true-in}
@@ -19,19 +18,19 @@ use Rattle.lists.proofs.Decides.{Decides, said, both, whenever, equal, less}
 use Rattle.codes.specs.declared.table.Code.{Code}
 use Rattle.codes.specs.Codes.{lawful}
 use Rattle.codes.proofs.Rules.{lawful-out}
-use Rattle.trellis.specs.Trellis.{Trellis, Path, Node, node, top, allowed, ends, along, metric, endNode}
-use Rattle.trellis.specs.Verdict.{Entry, entry, pathOf}
+use Rattle.trellis.specs.Trellis.{Trellis, Path, Node, node, ends, along, metric, endNode}
+use Rattle.trellis.specs.Verdict.{Entry, pathOf}
 use Rattle.trellis.specs.Sheet.{onto, carries}
 use Rattle.trellis.proofs.Paths.{node-path, allowed-top}
 use Rattle.trellis.proofs.Honest.{lower}
-use Rattle.trellis.proofs.SheetTests.{Listed, arrival, AllBranches, Onward, Dearer, Clear, Carries, branches-test, carries-test}
+use Rattle.trellis.proofs.SheetTests.{Listed, arrival, AllBranches, Onward, Dearer, Clear, branches-test, carries-test}
 use Rattle.trellis.proofs.Parts.{parts}
 use Rattle.blocks.specs.Symbols.{Seen}
 use Rattle.blocks.specs.Blocks.{trellisOf}
 use Rattle.blocks.proofs.Closing.{input-bit}
-use Rattle.sheets.specs.Bytes.{series, numberAt, metricPlace, bitAt, sheetRead}
+use Rattle.sheets.specs.Bytes.{series, metricPlace, bitAt, sheetRead}
 use Rattle.sheets.specs.Checking.{rising, carried}
-use Rattle.sheets.specs.Steps.{absent, listedCost, early, Walked, onPath, onward, clear, passing, allPassing, tested}
+use Rattle.sheets.specs.Steps.{absent, early, Walked, onPath, onward, clear, allPassing, tested}
 use Rattle.sheets.proofs.Agree.{agree}
 use Rattle.sheets.proofs.Series.{length-series}
 use Rattle.sheets.proofs.Numbers.{Bytes, numberAt-below}

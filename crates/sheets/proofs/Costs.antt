@@ -2,8 +2,7 @@
 -- cost or within one, is a comparison with it. Assumes nothing.
 use mathlib.Core.Path.{_≡_, refl, sym, ap, _∙_, subst}
 use mathlib.Core.List.{List, [], _∷_}
-use mathlib.Core.Bool.{Bool, true, false, cond}
-use Prim.Native.Nat.{ℕ, zero, suc, _≤_, _<_}
+use Prim.Native.Nat.{ℕ, suc, _≤_, _<_}
 use native.Mathlib.Omega.{arith}
 use lib.Dec.{T, eqb, leb}
 use lib.ListN.{length, getD}
@@ -13,7 +12,7 @@ use Rattle.lists.proofs.Membership.{here, further, member-cast}
 use Rattle.lists.proofs.Sorted.{Sorted}
 use Rattle.lists.proofs.Decides.{Decides, said, equal, atMost}
 use Rattle.trellis.specs.Trellis.{Node, same}
-use Rattle.trellis.specs.Verdict.{Entry, entry}
+use Rattle.trellis.specs.Verdict.{Entry}
 use Rattle.trellis.proofs.Paths.{same-equality}
 use Rattle.trellis.proofs.Order.{earlier-order, entry-path}
 use Rattle.trellis.proofs.Honest.{lower}

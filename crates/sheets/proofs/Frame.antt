@@ -1,16 +1,15 @@
 -- Which bytes have the frame of a sheet: writing what was read gives them back exactly if the size, the length field, the kind, L and
 -- the unused bits are as the layout says. Both ways, for a program that tests these. Assumes nothing.
 use mathlib.Core.Path.{_≡_, refl, sym, ap, ap₂, _∙_, subst}
-use mathlib.Core.List.{List, [], _∷_, _++_, flatMap, append-nil, append-assoc}
-use mathlib.Core.Bool.{Bool, true, false}
-use Prim.Native.Nat.{ℕ, zero, suc, _+_, _-_, _*_, _/_, _%_, _^_, _≤_, _<_, min}
+use mathlib.Core.List.{List, [], _∷_, _++_, flatMap, append-nil}
+use Prim.Native.Nat.{ℕ, zero, suc, _+_, _-_, _*_, _%_, _^_, _≤_, _<_}
 use native.Mathlib.Nat.{mod-one}
 use native.Mathlib.Decide.{ℕ-discrete}
 use native.Mathlib.Omega.{arith}
 use lib.ListN.{length, getD, drop, drop-of-length-le}
 use Rattle.lists.proofs.Decides.{Decides, said, both, equal}
 use Rattle.trellis.specs.Verdict.{Entry}
-use Rattle.sheets.specs.Bytes.{Sheet, series, bytesOf, kind, messageSize, octet, messageBytes, entryBytes, following, sheetBytes, numberAt, metricPlace, countPlace, messagePlace, entriesPlace, bitAt, entryAt, sheetRead}
+use Rattle.sheets.specs.Bytes.{series, bytesOf, kind, messageSize, octet, messageBytes, entryBytes, following, sheetBytes, numberAt, countPlace, messagePlace, entriesPlace, bitAt, entryAt, sheetRead}
 use Rattle.sheets.specs.Checking.{alike, framed}
 use Rattle.sheets.specs.Steps.{sheetSize}
 use Rattle.sheets.proofs.Series.{length-series, series-same, series-stands}

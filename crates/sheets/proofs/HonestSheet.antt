@@ -1,8 +1,8 @@
 -- The check does not refuse everything: where one message alone has the least metric, the honest sheet, written by the one definition
 -- of a sheet's bytes, is accepted, if it has at most 4,096 entries. Assumes nothing.
-use mathlib.Core.Path.{_≡_, refl, sym, ap, ap₂, _∙_, subst}
+use mathlib.Core.Path.{_≡_, refl, sym, ap, _∙_, subst}
 use mathlib.Core.List.{List, [], _∷_, _++_}
-use mathlib.Core.Bool.{Bool, true}
+use mathlib.Core.Bool.{true}
 use Prim.Native.Nat.{ℕ, _+_, _^_, _≤_, _<_}
 use native.Mathlib.Decide.{decLt}
 use native.Mathlib.Omega.{arith}
@@ -12,10 +12,10 @@ use lib.IntN.{ℤ}
 use lib.ListN.{length, getD, drop, List·getD-eq-default}
 use lib.Pow.{pow-mono}
 use Rattle.lists.specs.Lists.{_∈_, all}
-use Rattle.lists.proofs.Tests.{true-in, true-out, and-in}
+use Rattle.lists.proofs.Tests.{true-out, and-in}
 use Rattle.lists.proofs.Membership.{here, Every, all-in, member-length}
 use Rattle.codes.specs.declared.table.Code.{Code}
-use Rattle.codes.specs.Codes.{from, lawful}
+use Rattle.codes.specs.Codes.{from}
 use Rattle.codes.proofs.Rules.{lawful-out}
 use Rattle.trellis.specs.Trellis.{Trellis}
 use Rattle.trellis.specs.Verdict.{Entry, messages, leastMetric, leastMessages}
@@ -30,7 +30,7 @@ use Rattle.blocks.specs.Blocks.{trellisOf}
 use Rattle.blocks.proofs.Closing.{trellis-lawful, state-below}
 use Rattle.blocks.proofs.Weights.{Tested, leastMetric-greatest}
 use Rattle.sheets.specs.Bytes.{Sheet, sheetBytes, sheetRead}
-use Rattle.sheets.specs.Checking.{alike, framed, mostEntries, rising, inTrellis, formed, carried, honestSheet, handed, sizesFit, checking}
+use Rattle.sheets.specs.Checking.{alike, framed, mostEntries, rising, inTrellis, carried, honestSheet, handed, sizesFit, checking}
 use Rattle.sheets.proofs.Octets.{Bits}
 use Rattle.sheets.proofs.Written.{EntryFits, Fits, read-written}
 use Rattle.sheets.proofs.Frame.{alike-test}

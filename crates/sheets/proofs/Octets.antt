@@ -1,8 +1,8 @@
 -- The message's bytes: a bit that was written is read, and a byte that was read, written again, is the byte less its unused bits.
 -- Assumes nothing.
-use mathlib.Core.Path.{_≡_, refl, sym, ap, ap₂, _∙_}
-use mathlib.Core.List.{List, [], _∷_, _++_}
-use mathlib.Core.Bool.{Bool, true, false, cond}
+use mathlib.Core.Path.{_≡_, sym, ap, ap₂, _∙_}
+use mathlib.Core.List.{List}
+use mathlib.Core.Bool.{cond}
 use Prim.Native.Nat.{ℕ, zero, suc, _+_, _-_, _*_, _/_, _%_, _^_, _≤_, _<_, min}
 use native.Mathlib.Nat.{div-add-mod}
 use native.Mathlib.Numerals.{add-one}
@@ -11,7 +11,7 @@ use native.Mathlib.Omega.{arith}
 use borrow.Author.Tests.{lt-ltb, le-ltb}
 use lib.Dec.{ltb, lit<}
 use lib.Pow.{shr-shr}
-use lib.ListN.{length, getD}
+use lib.ListN.{getD}
 use Rattle.sheets.specs.Bytes.{series, octet, messagePlace, bitAt}
 use Rattle.sheets.proofs.Series.{getD-series, getD-series-past}
 use Rattle.sheets.proofs.Numbers.{Bytes}

@@ -1,15 +1,15 @@
 -- For whoever puts a sheet into a buffer: the numbers, the message and the entries, put one after the other, are the sheet's bytes in
 -- front of the buffer, the excess untouched. The entries go one by one, by the work that is left. Assumes nothing.
-use mathlib.Core.Path.{_≡_, refl, sym, ap, _∙_}
+use mathlib.Core.Path.{_≡_, sym, ap, _∙_}
 use mathlib.Core.List.{List, _∷_, _++_, flatMap}
 use Prim.Native.Nat.{ℕ, _+_, _-_, _*_, _≤_, _<_}
 use native.Mathlib.Numerals.{add-one}
 use native.Mathlib.Omega.{arith}
-use lib.ListN.{length, getD, drop, drop-of-length-le, length-append}
+use lib.ListN.{length, getD, drop, drop-of-length-le}
 use lib.Seq.{sets, drop-cons}
 use Rattle.lists.proofs.Writing.{sets-append, sets-front}
 use Rattle.trellis.specs.Verdict.{Entry}
-use Rattle.sheets.specs.Bytes.{Sheet, bytesOf, kind, messageSize, octet, messagePlace, entriesPlace, messageBytes, entryBytes, following, sheetBytes}
+use Rattle.sheets.specs.Bytes.{Sheet, bytesOf, messageSize, octet, messagePlace, entriesPlace, messageBytes, entryBytes, following, sheetBytes}
 use Rattle.sheets.specs.Steps.{sheetSize, headBytes}
 use Rattle.sheets.proofs.Series.{length-series}
 use Rattle.sheets.proofs.Written.{length-following, length-sheetBytes}

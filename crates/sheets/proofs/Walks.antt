@@ -1,13 +1,13 @@
 -- The message's path level by level: the walk, by what it holds so far, and the path that it comes to. Assumes nothing.
 use mathlib.Core.Path.{_≡_, refl, sym, ap, ap₂, _∙_, subst}
-use mathlib.Core.List.{List, [], _∷_, _++_, reverse}
+use mathlib.Core.List.{List, _∷_}
 use Prim.Native.Nat.{ℕ, zero, suc, _+_, _*_, _≤_, _<_}
 use native.Mathlib.Numerals.{add-one}
 use native.Mathlib.Decide.{ℕ-discrete}
 use native.Mathlib.Omega.{arith}
-use lib.ListN.{length, getD, set, replicate}
+use lib.ListN.{length, getD, set}
 use lib.Seq.{getD-set-same, getD-set-other}
-use Rattle.trellis.specs.Trellis.{Trellis, Path, ends, along, metric}
+use Rattle.trellis.specs.Trellis.{Trellis, ends, along, metric}
 use Rattle.sheets.specs.Steps.{absent, early, Walked}
 
 -- a path's level is the number of its inputs

@@ -1,13 +1,13 @@
 -- A sheet's bytes: how many they are, and that reading what was written gives the same sheet back, for every sheet whose fields fit
 -- their widths; so a sheet's bytes have one reading. Which bytes have the frame of a sheet is in Frame. Assumes nothing.
 use mathlib.Core.Path.{_≡_, refl, sym, ap, ap₂, _∙_}
-use mathlib.Core.List.{List, [], _∷_, _++_, flatMap, append-assoc}
-use Prim.Native.Nat.{ℕ, zero, suc, _+_, _-_, _*_, _/_, _%_, _^_, _≤_, _<_}
+use mathlib.Core.List.{List, [], _∷_, _++_, flatMap}
+use Prim.Native.Nat.{ℕ, suc, _+_, _-_, _*_, _/_, _%_, _^_, _<_}
 use native.Mathlib.Omega.{arith}
 use lib.ListN.{length, getD, drop, length-append, List·getD-append}
 use lib.Seq.{drop-at, drop-drop, getD-drop, ext-getD}
 use Rattle.lists.proofs.Membership.{here, further, Every}
-use Rattle.trellis.specs.Verdict.{Entry, entry}
+use Rattle.trellis.specs.Verdict.{Entry}
 use Rattle.trellis.proofs.Paths.{node-path}
 use Rattle.trellis.proofs.Order.{entry-path}
 use Rattle.sheets.specs.Bytes.{Sheet, series, bytesOf, messageSize, octet, messageBytes, entryBytes, following, sheetBytes, numberAt, metricPlace, countPlace, messagePlace, entriesPlace, bitAt, entryAt, sheetRead}

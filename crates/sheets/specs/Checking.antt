@@ -10,7 +10,7 @@ use Rattle.lists.specs.Lists.{all}
 use Rattle.codes.specs.declared.table.Code.{Code}
 use Rattle.codes.specs.Limits.{shortestMessage, longestMessage}
 use Rattle.codes.specs.Codes.{from, lawful, blockLength}
-use Rattle.trellis.specs.Trellis.{Trellis, Node}
+use Rattle.trellis.specs.Trellis.{Trellis}
 use Rattle.trellis.specs.Verdict.{Entry, earlier, pathOf, leastMetric}
 use Rattle.trellis.specs.Sheet.{carries, honest}
 use Rattle.blocks.specs.Symbols.{view}

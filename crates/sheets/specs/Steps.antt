@@ -12,7 +12,7 @@ use Rattle.codes.specs.declared.table.Code.{Code}
 use Rattle.codes.specs.Limits.{longestMessage}
 use Rattle.codes.specs.Codes.{lawful, blockLength}
 use Rattle.trellis.specs.Trellis.{Trellis, Path, Node, node, same, allowed, ends, metric}
-use Rattle.trellis.specs.Verdict.{Entry, entry}
+use Rattle.trellis.specs.Verdict.{Entry}
 use Rattle.trellis.specs.Sheet.{onto}
 use Rattle.sheets.specs.Bytes.{series, bytesOf, kind, numberAt, countPlace, entriesPlace, entryAt}
 use Rattle.sheets.specs.Checking.{mostEntries, rising, inTrellis, formed}

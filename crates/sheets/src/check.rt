@@ -11,7 +11,6 @@ use codes::table::Code;
 use codes::table::keeps_rules;
 ghost use mathlib.Core.Path.{_≡_};
 ghost use mathlib.Core.Bool.{true};
-ghost use Prim.Native.Nat.{_≤_};
 ghost use lib.ListN.{length};
 ghost use lib.Seq.{sets};
 ghost use Rattle.codes.specs.Codes.{lawful};

@@ -10,7 +10,7 @@ ghost use lib.Seq.{sets};
 ghost use Rattle.lists.specs.Lists.{all};
 ghost use Rattle.codes.specs.Encoding.{isBit};
 ghost use Rattle.trellis.specs.Verdict.{entry};
-ghost use Rattle.sheets.specs.Bytes.{messageSize, messagePlace, entriesPlace, octet, messageBytes, entryBytes};
+ghost use Rattle.sheets.specs.Bytes.{messagePlace, entriesPlace, octet, messageBytes, entryBytes};
 ghost use Rattle.sheets.specs.Steps.{sheetSize, headBytes, Puttable};
 
 const KIND: u16 = 257;

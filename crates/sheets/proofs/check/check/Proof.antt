@@ -7,7 +7,6 @@ use mathlib.Core.List.{List, _++_}
 use Prim.Native.Nat.{ℕ}
 use native.Mathlib.Omega.{arith}
 use lib.ListN.{length, drop}
-use lib.Seq.{sets}
 use Rattle.lists.proofs.Tests.{true-in}
 use Rattle.lists.proofs.Writing.{sets-front}
 use Rattle.codes.specs.Codes.{lawful}

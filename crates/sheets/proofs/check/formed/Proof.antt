@@ -1,9 +1,8 @@
 -- `check::formed` meets its contract: each test is a part of the form, in its order. Assumes nothing.
 use borrow.Author.Needs.{needs}
 use borrow.Author.Tests.{le-leb, lt-leb, not-true, not-false}
-use mathlib.Core.Path.{_≡_, sym, ap, ap₂, _∙_}
-use mathlib.Core.List.{List}
-use mathlib.Core.Bool.{Bool, true, _&&_}
+use mathlib.Core.Path.{_≡_, sym, ap, _∙_}
+use mathlib.Core.Bool.{true, _&&_}
 use Prim.Native.Nat.{ℕ, _+_, _-_, _*_, _%_, _^_, _≤_}
 use native.Mathlib.Omega.{arith}
 use lib.Dec.{leb, ltb}
@@ -12,10 +11,9 @@ use lib.Pow.{shl-exact}
 use Rattle.lists.specs.Lists.{all}
 use Rattle.lists.proofs.Tests.{true-in}
 use Rattle.codes.specs.Codes.{from}
-use Rattle.codes.proofs.Rules.{Bounds, lawful-out}
-use Rattle.trellis.specs.Verdict.{Entry}
-use Rattle.sheets.specs.Bytes.{entriesPlace, numberAt, countPlace, sheetRead}
-use Rattle.sheets.specs.Checking.{framed, mostEntries, rising, formed}
+use Rattle.codes.proofs.Rules.{lawful-out}
+use Rattle.sheets.specs.Bytes.{numberAt, countPlace, sheetRead}
+use Rattle.sheets.specs.Checking.{framed, mostEntries, rising}
 use Rattle.sheets.specs.Steps.{entriesIn}
 use Rattle.sheets.proofs.Frame.{Framed, framed-test}
 use Rattle.sheets.proofs.Listing.{entriesIn-part}

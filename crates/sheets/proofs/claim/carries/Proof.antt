@@ -6,7 +6,6 @@ use Prim.Native.Nat.{ℕ, _≤_}
 use native.Mathlib.Omega.{arith}
 use lib.ListN.{length, take}
 use lib.Seq.{length-take-le}
-use Rattle.codes.specs.Codes.{blockLength}
 use Rattle.blocks.specs.Symbols.{Seen}
 use Rattle.blocks.specs.Blocks.{trellisOf}
 use Rattle.blocks.specs.Packed.{seenIn}

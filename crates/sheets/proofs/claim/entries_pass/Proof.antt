@@ -1,8 +1,8 @@
 -- `claim::entries_pass` meets its contract: the entries from place i on pass exactly if all do. Assumes nothing.
 use borrow.Author.Tests.{not-true, not-false}
 use mathlib.Core.Path.{_≡_, refl, sym, ap, _∙_}
-use mathlib.Core.Bool.{Bool, false}
-use Prim.Native.Nat.{ℕ, _+_, _-_, _*_, _≤_, _<_}
+use mathlib.Core.Bool.{Bool}
+use Prim.Native.Nat.{_-_, _≤_, _<_}
 use native.Mathlib.Omega.{arith}
 use lib.ListN.{length, getD, drop}
 use Rattle.lists.specs.Lists.{all}
@@ -10,7 +10,6 @@ use Rattle.lists.proofs.Scan.{all-next, all-stop, all-done}
 use Rattle.trellis.specs.Verdict.{Entry}
 use Rattle.blocks.specs.Blocks.{trellisOf}
 use Rattle.blocks.specs.Packed.{seenIn}
-use Rattle.sheets.specs.Bytes.{entryAt}
 use Rattle.sheets.specs.Steps.{entriesIn, allPassing}
 use Rattle.sheets.proofs.Listing.{none, length-entriesIn, entriesIn-at}
 use Rattle.sheets.proofs.claim.entries_pass.Statement.{statement}

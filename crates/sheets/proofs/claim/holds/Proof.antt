@@ -1,15 +1,12 @@
 -- `claim::holds` meets its contract: the path is walked, and the tests are the conditions. Assumes nothing.
 use borrow.Author.Needs.{needs}
 use mathlib.Core.Path.{_≡_, sym, ap, _∙_}
-use mathlib.Core.Bool.{true}
-use mathlib.Core.List.{List}
-use Prim.Native.Nat.{ℕ, _+_, _≤_, _<_}
+use Prim.Native.Nat.{_+_, _<_}
 use native.Mathlib.Omega.{arith}
 use lib.ListN.{length, drop}
 use Rattle.lists.specs.Lists.{all}
 use Rattle.lists.proofs.Tests.{true-in}
 use Rattle.codes.proofs.Rules.{lawful-out}
-use Rattle.trellis.specs.Verdict.{Entry}
 use Rattle.blocks.specs.Packed.{seenIn}
 use Rattle.sheets.specs.Bytes.{entriesPlace, sheetRead}
 use Rattle.sheets.specs.Checking.{framed, rising, inTrellis}

@@ -1,10 +1,9 @@
 -- `claim::tests_pass` meets its contract: each test is a part of the definition, in its order. Assumes nothing.
 use borrow.Author.Needs.{needs}
 use borrow.Author.Tests.{eq-eqb, ne-eqb, not-true, not-false}
-use mathlib.Core.Path.{_≡_, sym, ap, ap₂, _∙_, subst}
+use mathlib.Core.Path.{_≡_, sym, ap, _∙_, subst}
 use mathlib.Core.List.{List}
-use mathlib.Core.Bool.{Bool, true, false, _&&_}
-use Prim.Native.Nat.{ℕ, _+_, _-_, _<_}
+use Prim.Native.Nat.{ℕ, _+_, _-_}
 use native.Mathlib.Omega.{arith}
 use lib.Dec.{eqb}
 use lib.ListN.{length, getD, take, drop}
@@ -14,9 +13,8 @@ use Rattle.trellis.specs.Trellis.{Trellis}
 use Rattle.trellis.specs.Verdict.{Entry}
 use Rattle.blocks.specs.Blocks.{trellisOf}
 use Rattle.blocks.specs.Packed.{seenIn}
-use Rattle.sheets.specs.Bytes.{series, entriesPlace, numberAt, metricPlace, sheetRead}
-use Rattle.sheets.specs.Checking.{rising}
-use Rattle.sheets.specs.Steps.{entriesIn, onPath, allPassing, tested, Followed, Branching}
+use Rattle.sheets.specs.Bytes.{series, entriesPlace, sheetRead}
+use Rattle.sheets.specs.Steps.{entriesIn, onPath, allPassing, tested, Branching}
 use Rattle.sheets.proofs.Agree.{first-fails, second-fails, both-pass}
 use Rattle.sheets.proofs.Listing.{part-rest, entriesIn-sheet}
 use Rattle.sheets.proofs.claim.tests_pass.Statement.{statement}

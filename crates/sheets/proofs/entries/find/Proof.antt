@@ -6,7 +6,7 @@ use native.Mathlib.Decide.{decLt}
 use native.Mathlib.Omega.{arith}
 use lib.ListN.{length}
 use Rattle.sheets.specs.Bytes.{entryAt}
-use Rattle.sheets.specs.Steps.{keyOf, Sought}
+use Rattle.sheets.specs.Steps.{keyOf}
 use Rattle.sheets.proofs.Listing.{keys-rise}
 use Rattle.sheets.proofs.entries.find.Statement.{statement}
 use Rattle.sheets.proofs.entries.find.Tie as tie

@@ -2,9 +2,8 @@
 use borrow.Author.Needs.{needs}
 use mathlib.Core.Path.{_≡_, sym, ap, _∙_}
 use mathlib.Core.List.{List}
-use Prim.Native.Nat.{ℕ, _+_, _*_, _/_, _<_}
+use Prim.Native.Nat.{ℕ, _*_, _<_}
 use native.Mathlib.Omega.{arith}
-use lib.ListN.{length}
 use Rattle.lists.proofs.Tests.{true-in}
 use Rattle.trellis.specs.Trellis.{Node, node}
 use Rattle.trellis.specs.Verdict.{Entry}

@@ -1,13 +1,10 @@
 -- `entries::rise` meets its contract: the entries from place i on rise exactly if all do. Assumes nothing.
-use borrow.Author.Needs.{needs}
-use mathlib.Core.Path.{_≡_, refl, sym, ap, ap₂, _∙_}
-use mathlib.Core.Bool.{Bool, true, false}
-use Prim.Native.Nat.{ℕ, suc, _+_, _-_, _*_, _/_, _≤_, _<_}
+use mathlib.Core.Path.{_≡_, refl, sym, _∙_}
+use Prim.Native.Nat.{suc, _+_, _-_, _*_, _≤_, _<_}
 use native.Mathlib.Numerals.{add-one}
 use native.Mathlib.Omega.{arith}
-use lib.ListN.{length, getD, drop}
-use Rattle.lists.proofs.Decides.{Decides, said}
-use Rattle.trellis.specs.Verdict.{earlier}
+use lib.ListN.{getD, drop}
+use Rattle.lists.proofs.Decides.{Decides}
 use Rattle.trellis.proofs.Honest.{lower}
 use Rattle.sheets.specs.Bytes.{entryAt}
 use Rattle.sheets.specs.Checking.{rising}

@@ -1,16 +1,15 @@
 -- `form::framed` meets its contract: each test is a part of the frame. Assumes nothing.
 use borrow.Author.Needs.{needs}
 use mathlib.Core.Path.{_≡_, sym, ap, ap₂, _∙_}
-use Prim.Native.Nat.{ℕ, _+_, _-_, _*_, _%_, _^_, _≤_}
+use Prim.Native.Nat.{ℕ, _+_, _-_, _*_, _%_, _^_}
 use native.Mathlib.Omega.{arith}
 use lib.Dec.{eqb}
 use lib.ListN.{length, getD}
 use lib.Pow.{pow-pos, shl-exact}
 use Rattle.lists.proofs.Decides.{Decides, said, equal}
-use Rattle.sheets.specs.Bytes.{messageSize, messagePlace, entriesPlace, numberAt, countPlace}
+use Rattle.sheets.specs.Bytes.{messageSize, messagePlace, entriesPlace}
 use Rattle.sheets.specs.Checking.{framed}
 use Rattle.sheets.proofs.Agree.{agree, decided-no}
-use Rattle.sheets.proofs.Numbers.{Bytes}
 use Rattle.sheets.proofs.Frame.{Framed, framed-test}
 use Rattle.sheets.proofs.form.framed.Statement.{statement}
 use Rattle.sheets.proofs.form.framed.Tie as tie

@@ -1,16 +1,16 @@
 -- `path::walk` meets its contract: what is written so far is the path so far (the record Walking). Assumes nothing.
 use borrow.Author.Needs.{needs}
-use mathlib.Core.Path.{_≡_, refl, sym, ap, _∙_, subst}
+use mathlib.Core.Path.{_≡_, refl, _∙_, subst}
 use mathlib.Core.List.{List}
-use Prim.Native.Nat.{ℕ, _+_, _-_, _*_, _^_, _≤_, _<_}
+use Prim.Native.Nat.{ℕ, _+_, _-_, _^_, _≤_, _<_}
 use native.Mathlib.Omega.{arith}
-use lib.ListN.{length, getD, set, length-set}
+use lib.ListN.{length, length-set}
 use lib.Pow.{pow-pos, pow-mono}
 use lib.Seq.{getD-set-same}
 use Rattle.codes.proofs.Rules.{Bounds, lawful-out}
 use Rattle.trellis.specs.Trellis.{Trellis}
 use Rattle.blocks.specs.Blocks.{trellisOf}
-use Rattle.blocks.specs.Packed.{seenIn, Priceable, greatestPrice}
+use Rattle.blocks.specs.Packed.{seenIn, greatestPrice}
 use Rattle.blocks.proofs.Prices.{branch-within}
 use Rattle.sheets.specs.Bytes.{sheetRead}
 use Rattle.sheets.specs.Steps.{Walked}
