@@ -51,7 +51,7 @@ enum {
     PLUMTASSEL_WORDS_PER_NODE = 3     /* working memory: words of 8 bytes for each node of the room */
 };
 
-/* A code with one input bit. Shown as all zeros where there is none; that code is refused 1 everywhere. */
+/* A code with one input bit. */
 typedef struct {
     uint32_t outputs;       /* n, symbols for each bit: 2 to 4 */
     uint32_t memory;        /* m, bits remembered: 1 to 16 */
@@ -61,7 +61,7 @@ typedef struct {
 /* What an operation hands back. What a number does not name is 0. */
 typedef struct {
     uint32_t number; /* 0, or why not: see above */
-    uint32_t metric; /* decode, decode_sheet: the least metric, with 0 and 5; check: the sheet's metric, with 0. At most 110592 in an answered decode */
+    uint32_t metric; /* decode, decode_sheet: the least metric, with 0 and 5; check: the same, with 0. At most 110592 */
     uint32_t steps;  /* decode, decode_sheet: nodes expanded, with 0, 3, 4 and 5 */
     uint32_t length; /* encode: N, with 0; decode_sheet: the sheet's bytes, with 0, or the size needed, with 9 */
 } plumtassel_answer;
@@ -83,7 +83,8 @@ typedef struct {
     float highest;   /* with 0: the highest reading; of equal ones the first */
 } plumtassel_report;
 
-/* The house code of a row: 0 is 7, 5 (memory 2); 1 is 103, 93 (6); 2 is 303, 493 (8); 3 is 118025, 78583 (16). A row above 3: all zeros. */
+/* The house code of a row: 0 is 7, 5 (memory 2); 1 is 103, 93 (6); 2 is 303, 493 (8); 3 is 118025, 78583 (16). A row above 3:
+ * all zeros, which every operation refuses 1. */
 plumtassel_code plumtassel_house(size_t row);
 
 /* Encodes. Answers 0 with length N, 1, 2 or 6. */
@@ -139,7 +140,7 @@ plumtassel_answer plumtassel_check(
 /* Turns readings into symbols: the product to the nearest whole number, halves away from zero, held within -127 to 127. Answers 0 with
  * count, lowest and highest, 2, 6, or 8 with index. */
 plumtassel_report plumtassel_front(
-    plumtassel_front_end front_end,
+    plumtassel_front_end front,
     const float *readings,  /* any bit patterns; 8 if one is not finite */
     size_t count,           /* 1 to 864 */
     int8_t *symbols,        /* with 0: the first count bytes are written; the rest is untouched */
