@@ -6,3 +6,5 @@ pub mod Halting
 pub mod Sizes
 pub mod Decodings
 pub mod Answers
+pub mod Settling
+pub mod Refusals

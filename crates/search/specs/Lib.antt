@@ -1,3 +1,4 @@
 pub mod Limits
 pub mod Decoding
 pub mod Work
+pub mod Settling

@@ -53,11 +53,10 @@ pub record Roomy (work : List ℕ) (n room : ℕ) : Type 0 where
   pub small : room ≤ largestRoom
   pub words : wordsPerNode * room ≤ length work
 
--- the memory and the message buffer that were lent are large enough
-pub record Lent (l room : ℕ) (work message : List ℕ) : Type 0 where
+-- the memory that was lent is large enough
+pub record Lent (room : ℕ) (work : List ℕ) : Type 0 where
   pub small : room ≤ largestRoom
   pub words : wordsPerNode * room ≤ length work
-  pub long : l ≤ length message
 
 -- a node of the trellis, at a cost that some path has
 pub record Fitting (c : Code) (l : ℕ) (e : Entry) : Type 0 where

@@ -8,9 +8,9 @@ use codes::table::keeps_rules;
 ghost use mathlib.Core.Path.{_≡_};
 ghost use mathlib.Core.Bool.{true};
 ghost use Rattle.codes.specs.Codes.{lawful};
-ghost use Rattle.trellis.specs.Verdict.{verdict};
-ghost use Rattle.search.specs.Decoding.{told, sizesFit, given, decoding};
+ghost use Rattle.search.specs.Decoding.{told, sizesFit, decoding};
 ghost use Rattle.search.specs.Work.{trellisIn, Sized, Lent};
+ghost use Rattle.search.specs.Settling.{Searches, Settles};
 
 const SHORTEST_MESSAGE: usize = 1;
 
@@ -33,6 +33,14 @@ pub enum Decoded {
     Tied { metric: u32, steps: u32 },
 }
 
+// What a decode came to before anything is written: its answer, how many rows the working memory shows, and, where the message is
+// found, the row of the terminal.
+pub struct Settled {
+    pub decoded: Decoded,
+    pub rows: usize,
+    pub row: usize,
+}
+
 // Decodes a block: the message that alone has the least metric, or the refusal that node order says. On a refusal the message buffer
 // is untouched. The working memory, three words a node, may be overwritten; no answer depends on what it held.
 pub fn decode(
@@ -46,16 +54,53 @@ pub fn decode(
 ) -> Decoded
     ensures { λ r. do ⌜ told r (now (message .exit)) ≡ decoding code length (now (symbols .entry)) room allowance (← ⟦work.len()⟧ .entry) (now (message .entry)) ⌝ }
 {
+    let settled = settle(code, length, symbols, room, allowance, work, message.len());
+    let decoded = settled.decoded;
+    let Decoded::Done { metric, steps } = decoded else {
+        return decoded;
+    };
+    let last = (length as u64) + code.memory as u64;
+    trace(
+        work,
+        settled.rows,
+        last,
+        settled.row,
+        length as u64,
+        message,
+    );
+    Decoded::Done { metric, steps }
+}
+
+// The tests and the search of a decode, for a message buffer of a given length. Where the message is found, `trace` writes it.
+pub fn settle(
+    code: Code,
+    length: usize,
+    symbols: &[i8],
+    room: usize,
+    allowance: u32,
+    work: &mut [u64],
+    buffer: usize,
+) -> Settled
+    ensures { λ r. do ⌜ Settles code length (now (symbols .entry)) room allowance (now (work .entry)) buffer (now (work .exit)) r ⌝ }
+{
     if !keeps_rules(code) {
-        return Decoded::BadCode;
+        return Settled {
+            decoded: Decoded::BadCode,
+            rows: 0,
+            row: 0,
+        };
     }
-    if !sizes_fit(code, length, symbols.len(), room, work.len(), message.len()) {
-        return Decoded::BadSize;
+    if !sizes_fit(code, length, symbols.len(), room, work.len(), buffer) {
+        return Settled {
+            decoded: Decoded::BadSize,
+            rows: 0,
+            row: 0,
+        };
     }
     let mut seen = [0u16; LONGEST_BLOCK];
     see(symbols, &mut seen);
     let count = symbols.len();
-    search(code, length, &seen[..count], room, allowance, work, message)
+    search(code, length, &seen[..count], room, allowance, work)
 }
 
 // Whether all lengths are as stated. Nothing is multiplied before it is tested.
@@ -96,16 +141,24 @@ fn search(
     room: usize,
     allowance: u32,
     work: &mut [u64],
-    message: &mut [u8],
-) -> Decoded
-    requires { ⌜ Sized code length (now seen) ⌝ ∗ ⌜ Lent length room (now work) (now message) ⌝ }
-    ensures { λ r. ⌜ told r (now (message .exit)) ≡ given (verdict (trellisIn code length (now (seen .entry))) room allowance) (now (message .entry)) ⌝ }
+) -> Settled
+    requires { ⌜ Sized code length (now seen) ⌝ ∗ ⌜ Lent room (now work) ⌝ }
+    ensures { λ r. ⌜ Searches (trellisIn code length (now (seen .entry))) room allowance (now (work .entry)) (now (work .exit)) r ⌝ }
 {
     let halt = run(code, length as u64, seen, room, allowance, work);
+    let rows = halt.rows;
     let reached = halt.reached;
     match reached {
-        Reached::Full(steps) => Decoded::NoRoom { steps },
-        Reached::Spent(steps) => Decoded::NoAllowance { steps },
+        Reached::Full(steps) => Settled {
+            decoded: Decoded::NoRoom { steps },
+            rows,
+            row: 0,
+        },
+        Reached::Spent(steps) => Settled {
+            decoded: Decoded::NoAllowance { steps },
+            rows,
+            row: 0,
+        },
         Reached::Terminal {
             metric,
             steps,
@@ -114,11 +167,17 @@ fn search(
         } => {
             let metric = metric as u32;
             if 1 < count {
-                return Decoded::Tied { metric, steps };
+                return Settled {
+                    decoded: Decoded::Tied { metric, steps },
+                    rows,
+                    row,
+                };
             }
-            let last = (length as u64) + code.memory as u64;
-            trace(work, halt.rows, last, row, length as u64, message);
-            Decoded::Done { metric, steps }
+            Settled {
+                decoded: Decoded::Done { metric, steps },
+                rows,
+                row,
+            }
         }
     }
 }

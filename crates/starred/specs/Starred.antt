@@ -2,7 +2,7 @@
 -- holds by computation. Code 7, 5 throughout. Assumes nothing.
 use mathlib.Core.Path.{_≡_, refl}
 use mathlib.Core.List.{List, [], _∷_, map, flatMap}
-use Prim.Native.Nat.{ℕ}
+use Prim.Native.Nat.{ℕ, _*_}
 use lib.Count.{ones, onesIn}
 use lib.ListN.{take, set, replicate}
 use lib.IntN.{ℤ, pos, negℤ}
@@ -10,12 +10,13 @@ use Rattle.lists.specs.Lists.{all, any, keep, distinct, insert, sort, below, le
 use Rattle.codes.specs.Codes.{houseCodes, houseCode, lawful, outputsFrom, codeword}
 use Rattle.codes.specs.Encoding.{Encoding, handed, encoding}
 use Rattle.trellis.specs.Trellis.{Trellis, metric, allowed, ends, along, paths, pathsTo, cost, reachable, successors}
-use Rattle.trellis.specs.Verdict.{Verdict, answered, roomShort, allowanceSpent, tied, ranked, steps, met, words, messages, pathOf, leastMetric, leastMessages, lastFit, decided, verdict}
+use Rattle.trellis.specs.Verdict.{ranked, steps, met, words, messages, pathOf, leastMetric, leastMessages, lastFit, decided, verdict}
 use Rattle.trellis.specs.Sheet.{listedAs, listedWithin, conditionA, conditionB, conditionC, conditionD, carries, honest}
 use Rattle.blocks.specs.Symbols.{weight, view}
 use Rattle.blocks.specs.Blocks.{trellisOf, distance, branchCost}
+use Rattle.search.specs.Decoding.{Decoding, handed as found, given, decoding}
 use Rattle.sheets.specs.Bytes.{series, bytesOf, octet, following, sheetBytes, numberAt, sheetRead}
-use Rattle.sheets.specs.Checking.{alike, rising, framed, formed, carried, honestSheet, Checking, handed as given, checking}
+use Rattle.sheets.specs.Checking.{alike, rising, framed, formed, carried, honestSheet, Checking, handed as judged, checking}
 
 -- ---- what is asked, and what comes back
 
@@ -24,7 +25,7 @@ pub data Question : Type 0 where
   encode : (message : List ℕ) (room : ℕ) → Question
   -- the output sequences of a message, one for each generator
   sequences : (message : List ℕ) → Question
-  -- decode a block with L=1, a room R and an allowance B
+  -- decode a block with L=1, a room R and an allowance B; as much memory as R needs, and a message buffer of one byte, 9
   decode : (symbols : List ℤ) (room allowance : ℕ) → Question
   -- what a message costs against a block
   measure : (symbols : List ℤ) (message : List ℕ) → Question
@@ -38,8 +39,7 @@ pub data Question : Type 0 where
 pub data Reply : Type 0 where
   encoded : Encoding → Reply
   apart : (first second : List ℕ) → Reply
-  -- the paper's number, then what is handed back; values not named are 0, and no message is written
-  decoded : (number metric steps : ℕ) (message : List ℕ) → Reply
+  decoded : Decoding → Reply
   measured : ℕ → Reply
   weighed : List ℕ → Reply
   wrote : List ℕ → Reply
@@ -56,13 +56,6 @@ second [] = []
 second (x ∷ []) = []
 second (x ∷ y ∷ rest) = y ∷ second rest
 
--- the paper's number of a verdict, and its values
-unfoldable pub desk : Verdict → Reply
-desk (answered message metric steps) = decoded 0 metric steps message
-desk (roomShort steps) = decoded 3 0 steps []
-desk (allowanceSpent steps) = decoded 4 0 steps []
-desk (tied metric steps) = decoded 5 metric steps []
-
 -- the trellis of code 7, 5, L=1 and a block
 abbrev pub tried : List ℤ → Trellis
 tried symbols = trellisOf (houseCode 0) 1 (view symbols)
@@ -70,7 +63,7 @@ tried symbols = trellisOf (houseCode 0) 1 (view symbols)
 unfoldable pub reply : Question → Reply
 reply (encode message room) = encoded (encoding (houseCode 0) message (replicate room 9))
 reply (sequences message) = apart (first (codeword (houseCode 0) message)) (second (codeword (houseCode 0) message))
-reply (decode symbols room allowance) = desk (verdict (tried symbols) room allowance)
+reply (decode symbols room allowance) = decoded (decoding (houseCode 0) 1 symbols room allowance (3 * room) (9 ∷ []))
 reply (measure symbols message) = measured (metric (tried symbols) (pathOf (tried symbols) message))
 reply (weigh symbols) = weighed (map weight symbols)
 reply (sheet symbols message) = wrote (sheetBytes 1 (honestSheet (tried symbols) message))
@@ -115,30 +108,30 @@ cases =
     case 3 (sequences (1 ∷ 1 ∷ 1 ∷ 0 ∷ 1 ∷ []))
     (apart (1 ∷ 0 ∷ 1 ∷ 0 ∷ 0 ∷ 1 ∷ 1 ∷ []) (1 ∷ 1 ∷ 0 ∷ 1 ∷ 0 ∷ 0 ∷ 1 ∷ [])) ∷
     -- 'R=5, B=3: message 1, metric 3, E=3; the other message costs 17.'
-    case 4 (decode block 5 3) (decoded 0 3 3 (1 ∷ [])) ∷
+    case 4 (decode block 5 3) (decoded (found 0 3 3 (1 ∷ []))) ∷
     case 4 (measure block (0 ∷ [])) (measured 17) ∷
     -- 'The same with R=4: 3, steps 2.' 'R=4, B=2: 4.' 'R=3, B=2: 3, steps 1.' 'R=0: 3, steps 0.' 'R=1, B=0: 4, steps 0.'
-    case 5 (decode block 4 3) (decoded 3 0 2 []) ∷
-    case 6 (decode block 4 2) (decoded 4 0 2 []) ∷
-    case 7 (decode block 3 2) (decoded 3 0 1 []) ∷
-    case 8 (decode block 0 3) (decoded 3 0 0 []) ∷
-    case 9 (decode block 1 0) (decoded 4 0 0 []) ∷
+    case 5 (decode block 4 3) (decoded (found 3 0 2 (9 ∷ []))) ∷
+    case 6 (decode block 4 2) (decoded (found 4 0 2 (9 ∷ []))) ∷
+    case 7 (decode block 3 2) (decoded (found 3 0 1 (9 ∷ []))) ∷
+    case 8 (decode block 0 3) (decoded (found 3 0 0 (9 ∷ []))) ∷
+    case 9 (decode block 1 0) (decoded (found 4 0 0 (9 ∷ []))) ∷
     -- 'Six zeros, R=6, B=5: 5, metric 0, steps 5.'
-    case 10 (decode sixZeros 6 5) (decoded 5 0 5 []) ∷
+    case 10 (decode sixZeros 6 5) (decoded (found 5 0 5 (9 ∷ []))) ∷
     -- '-1 -1 2 9 0 0, R=6, B=5: 5, metric 2, steps 5.'
-    case 11 (decode (minus 1 ∷ minus 1 ∷ pos 2 ∷ pos 9 ∷ pos 0 ∷ pos 0 ∷ []) 6 5) (decoded 5 2 5 []) ∷
+    case 11 (decode (minus 1 ∷ minus 1 ∷ pos 2 ∷ pos 9 ∷ pos 0 ∷ pos 0 ∷ []) 6 5) (decoded (found 5 2 5 (9 ∷ []))) ∷
     -- 'Weights of -128, -1, 0, 127: 128, 1, 0, 127.'
     case 13 (weigh (minus 128 ∷ minus 1 ∷ pos 0 ∷ pos 127 ∷ [])) (weighed (128 ∷ 1 ∷ 0 ∷ 127 ∷ [])) ∷
     -- 'It is accepted; with its last byte missing, 6; with its metric byte made 04, 7.'
     case 14 (sheet block (1 ∷ [])) (wrote wholeSheet) ∷
-    case 14 (check block wholeSheet) (checked (given 0 3 (1 ∷ []))) ∷
-    case 14 (check block (take 46 wholeSheet)) (checked (given 6 0 (9 ∷ []))) ∷
-    case 14 (check block (set wholeSheet 8 0x04)) (checked (given 7 0 (9 ∷ []))) ∷ []
+    case 14 (check block wholeSheet) (checked (judged 0 3 (1 ∷ []))) ∷
+    case 14 (check block (take 46 wholeSheet)) (checked (judged 6 0 (9 ∷ []))) ∷
+    case 14 (check block (set wholeSheet 8 0x04)) (checked (judged 7 0 (9 ∷ []))) ∷ []
 
 -- ---- the claim
 
 pub starred-hold : map (λ c. reply (c .question)) cases ≡ map (λ (c : Case). c .answer) cases
-unfolding cases reply first second desk flatMap all keep distinct insert sort below least any lawful houseCodes houseCode outputsFrom codeword encoding ones onesIn
+unfolding cases reply first second given decoding flatMap all keep distinct insert sort below least any lawful houseCodes houseCode outputsFrom codeword encoding ones onesIn
     allowed ends along paths pathsTo cost reachable successors ranked steps met words messages pathOf leastMetric leastMessages lastFit decided verdict
     view distance branchCost
     listedAs listedWithin conditionA conditionB conditionC conditionD carries honest

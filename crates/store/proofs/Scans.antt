@@ -1,6 +1,6 @@
--- The two scans of the rows, by the work that is left: upwards for a node's row, downwards for the first open row. For each a record
--- that says how far the scan is, its start, its turns and its end. Assumes nothing.
-use mathlib.Core.Path.{_≡_, ap, _∙_}
+-- The scans of the rows, by the work that is left: upwards for a node's row, downwards for the first open row and for the closed row
+-- that comes next. For each a record that says how far the scan is, its start, its turns and its end. Assumes nothing.
+use mathlib.Core.Path.{_≡_, sym, ap, _∙_}
 use mathlib.Core.List.{List, [], _∷_}
 use mathlib.Core.Bool.{cond, _&&_}
 use Prim.Native.Nat.{ℕ, suc, _+_, _-_, _*_, _%_, _^_, _≤_, _<_}
@@ -12,10 +12,10 @@ use lib.ListN.{length, drop, drop-of-length-le, length-drop}
 use lib.Seq.{drop-cons, getD-drop}
 use borrow.Author.Tests.{lt-ltb, le-ltb, eq-eqb, ne-eqb}
 use Rattle.trellis.specs.Trellis.{Node, node}
-use Rattle.trellis.specs.Verdict.{before}
-use Rattle.trellis.specs.Search.{Row, noRow, rowAt, findRow, firstOpen}
+use Rattle.trellis.specs.Verdict.{earlier, before}
+use Rattle.trellis.specs.Search.{Row, noRow, rowAt, nodeAt, findRow, firstOpen, nextClosed}
 use Rattle.store.specs.Memory.{states, nodes, entryFrom, rowFrom, orderAt, restAt, rowsOf}
-use Rattle.store.proofs.Words.{before-words, same-words}
+use Rattle.store.proofs.Words.{before-words, earlier-words, same-words}
 use Rattle.store.proofs.Rows.{rowIn, length-rowsOf, rowAt-rowsOf}
 
 -- ---- the rows from row i on
@@ -141,3 +141,84 @@ module _ {work : List ℕ} {n i best lowest : ℕ} (o : Opening work n (suc i) b
 
 pub opening-done : {work : List ℕ} {n best lowest : ℕ} → Opening work n 0 best lowest → best ≡ firstOpen (rowsOf work n)
 opening-done o = omega (arith, o .seen)
+
+-- ---- the closed row that comes next
+
+-- the node that an order word holds
+abbrev pub nodeFrom : ℕ → Node
+nodeFrom order = entryFrom order .node
+
+-- The rows from i on were seen. Of the closed ones among them the one at best comes next after the node of the order word last, and
+-- lowest is its node's number; if there is none, best is n and lowest above every node's number.
+pub record Coming (work : List ℕ) (n last i best lowest : ℕ) : Type 0 where
+  pub within : i ≤ n
+  pub seen : best ≡ i + nextClosed (nodeFrom last) (from work n i)
+  pub number : lowest ≡ cond (ltb best n) (orderAt work best % nodes) nodes
+
+pub coming-start : (work : List ℕ) (n last : ℕ) → Coming work n last n n nodes
+unfolding nextClosed
+coming-start work n last = record {
+  within = omega arith;
+  seen = let e : nextClosed (nodeFrom last) (from work n n) ≡ 0 = ap (nextClosed (nodeFrom last)) (from-end work n n (omega arith)) in omega arith;
+  number = rw (le-ltb n n (omega arith));
+}
+
+module _ {work : List ℕ} {n last i best lowest : ℕ} (o : Coming work n last (suc i) best lowest) where
+  -- the row at best is earlier than row i exactly if its number is lower
+  coming-test : (let rest : List Row = from work n (suc i) in
+      ltb (nextClosed (nodeFrom last) rest) (length rest) && earlier (nodeAt rest (nextClosed (nodeFrom last) rest)) (nodeFrom (orderAt work i))) ≡ ltb lowest (orderAt work i % nodes)
+  unfolding rowFrom
+  coming-test = go (decLt best n)
+    where
+      rest : List Row
+      rest = from work n (suc i)
+
+      go : Dec (best < n)
+          → (ltb (nextClosed (nodeFrom last) rest) (length rest) && earlier (nodeAt rest (nextClosed (nodeFrom last) rest)) (nodeFrom (orderAt work i))) ≡ ltb lowest (orderAt work i % nodes)
+      go (yes h) =
+          let e : lowest ≡ orderAt work best % nodes = o .number ∙ rw (lt-ltb best n h) in
+          let own : rowAt rest (nextClosed (nodeFrom last) rest) ≡ rowIn work best =
+          getD-drop (suc i) (rowsOf work n) (nextClosed (nodeFrom last) rest) noRow ∙ ap (rowAt (rowsOf work n)) (sym (o .seen)) ∙ rowAt-rowsOf work n best h in
+          rw (lt-ltb (nextClosed (nodeFrom last) rest) (length rest) (omega (arith, o .seen, length-from work n (suc i))), e)
+          (ap (λ (r : Row). earlier (r .entry .node) (nodeFrom (orderAt work i))) own ∙ earlier-words (orderAt work best) (orderAt work i))
+      go (no h) =
+          let e : lowest ≡ nodes = o .number ∙ rw (le-ltb best n (omega arith)) in
+          rw (
+            le-ltb (nextClosed (nodeFrom last) rest) (length rest) (omega (arith, o .seen, o .within, length-from work n (suc i))),
+            le-ltb lowest (orderAt work i % nodes) (omega arith),
+          )
+
+  -- row i is passed over, or now comes next, as its words say
+  coming-turn : nextClosed (nodeFrom last) (from work n i)
+      ≡ (let later : ℕ = suc (nextClosed (nodeFrom last) (from work n (suc i))) in
+      cond (eqb (restAt work i % 2) 1 && ltb (last % nodes) (orderAt work i % nodes)) (cond (ltb lowest (orderAt work i % nodes)) later 0) later)
+  unfolding nextClosed rowFrom
+  coming-turn = rw (from-next work n i (omega (arith, o .within)), coming-test, earlier-words last (orderAt work i))
+
+  -- row i is open
+  pub coming-open : (restAt work i % 2 ≡ 1 → ⊥) → Coming work n last i best lowest
+  coming-open d = record { within = omega (arith, o .within); seen = omega (arith, o .seen, rw (ne-eqb _ _ d) at coming-turn); number = o .number }
+
+  -- row i does not come after the node
+  pub coming-past : restAt work i % 2 ≡ 1 → orderAt work i % nodes ≤ last % nodes → Coming work n last i best lowest
+  coming-past e h = record { within = omega (arith, o .within); seen = omega (arith, o .seen, rw (eq-eqb _ _ e, le-ltb _ _ h) at coming-turn); number = o .number }
+
+  -- row i comes later than the one at best
+  pub coming-later : restAt work i % 2 ≡ 1 → last % nodes < orderAt work i % nodes → lowest < orderAt work i % nodes → Coming work n last i best lowest
+  coming-later e h l = record {
+    within = omega (arith, o .within);
+    seen = omega (arith, o .seen, rw (eq-eqb _ _ e, lt-ltb (last % nodes) (orderAt work i % nodes) h, lt-ltb lowest (orderAt work i % nodes) l) at coming-turn);
+    number = o .number;
+  }
+
+  -- row i comes next now
+  pub coming-first : restAt work i % 2 ≡ 1 → last % nodes < orderAt work i % nodes → orderAt work i % nodes ≤ lowest
+      → Coming work n last i i (orderAt work i % nodes)
+  coming-first e h l = record {
+    within = omega (arith, o .within);
+    seen = omega (arith, rw (eq-eqb _ _ e, lt-ltb (last % nodes) (orderAt work i % nodes) h, le-ltb lowest (orderAt work i % nodes) l) at coming-turn);
+    number = rw (lt-ltb i n (omega (arith, o .within)));
+  }
+
+pub coming-done : {work : List ℕ} {n last best lowest : ℕ} → Coming work n last 0 best lowest → best ≡ nextClosed (nodeFrom last) (rowsOf work n)
+coming-done o = omega (arith, o .seen)

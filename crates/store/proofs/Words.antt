@@ -10,8 +10,8 @@ use borrow.Author.Tests.{eq-eqb, ne-eqb}
 use Rattle.lists.proofs.Tests.{and-in, and-out, true-in}
 use Rattle.lists.proofs.Lexicographic.{compared}
 use Rattle.trellis.specs.Trellis.{node, same}
-use Rattle.trellis.specs.Verdict.{entry, before}
-use Rattle.trellis.proofs.Order.{Earlier, Before, before-in, before-out}
+use Rattle.trellis.specs.Verdict.{entry, earlier, before}
+use Rattle.trellis.proofs.Order.{Earlier, earlier-in, earlier-out, Before, before-in, before-out}
 use Rattle.store.specs.declared.Held.{Held}
 use Rattle.store.specs.Memory.{rowOf, Small, states, levels, nodes, orderWord, restWord, entryFrom, rowFrom}
 
@@ -77,6 +77,24 @@ module _ (a b : ℕ) where
       test-path (before (entryFrom a) (entryFrom b)) (ltb a b)
       (λ h. lt→ltb a b (words-out (before-out (entryFrom a) (entryFrom b) h)))
       (λ h. before-in (entryFrom a) (entryFrom b) (words-in (ltb→lt a b h)))
+
+  -- level, then state, is one comparison too
+  pub earlier-words : earlier (entryFrom a .node) (entryFrom b .node) ≡ ltb (a % nodes) (b % nodes)
+  earlier-words =
+      test-path (earlier (entryFrom a .node) (entryFrom b .node)) (ltb (a % nodes) (b % nodes))
+      (λ h. lt→ltb (a % nodes) (b % nodes) (out (earlier-out (entryFrom a .node) (entryFrom b .node) h)))
+      (λ h. earlier-in (entryFrom a .node) (entryFrom b .node) (into (ltb→lt (a % nodes) (b % nodes) h) (compared (a / states % levels) (b / states % levels))))
+    where
+      out : Earlier (entryFrom a .node) (entryFrom b .node) → a % nodes < b % nodes
+      out (inl h) = omega arith
+      out (inr h) = omega (arith, h .0, h .1)
+
+      into : a % nodes < b % nodes
+          → (a / states % levels < b / states % levels) ⊎ ((a / states % levels ≡ b / states % levels) ⊎ (b / states % levels < a / states % levels))
+          → Earlier (entryFrom a .node) (entryFrom b .node)
+      into h (inl l) = inl l
+      into h (inr (inl e)) = inr (e, omega arith)
+      into h (inr (inr l)) = absurd (omega arith)
 
 -- so that level and every bit of the state are one comparison
 pub same-words : (order level state : ℕ) → level < 2 ^ 10 → state < 2 ^ 16

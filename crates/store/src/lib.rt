@@ -1,9 +1,9 @@
-// Nodes in lent memory: found, added, lowered, joined, closed, and the first open one taken. Three words a row (specs/Memory).
+// Nodes in lent memory: found, added, lowered, joined, closed, the first open one taken, the closed ones listed. Three words a row (specs/Memory).
 ghost use mathlib.Core.Path.{_≡_};
 ghost use Prim.Native.Nat.{_+_, _*_, _^_, _≤_, _<_, min};
 ghost use lib.ListN.{length};
 ghost use Rattle.trellis.specs.Trellis.{node};
-ghost use Rattle.trellis.specs.Search.{rowAt, nodeAt, started, findRow, firstOpen, added, lowered, joined, closed};
+ghost use Rattle.trellis.specs.Search.{rowAt, nodeAt, started, findRow, firstOpen, nextClosed, added, lowered, joined, closed};
 ghost use Rattle.store.specs.Memory.{rowOf, Small, orderWord, restWord, written, rowsOf, Stored, Shows};
 
 // How many states a level of the words has, how many levels, and how many nodes in all.
@@ -97,6 +97,31 @@ pub fn first_open(work: &[u64], n: usize) -> usize
             if order <= lowest {
                 best = i;
                 lowest = order;
+            }
+        }
+    }
+    best
+}
+
+// The index of the closed row whose node comes next after that of row k, by level, then state; n if there is none.
+pub fn next_closed(work: &[u64], n: usize, k: usize) -> usize
+    requires { ⌜ Stored (now work) n ⌝ ∗ ⌜ k < n ⌝ }
+    ensures { λ r. ⌜ r ≡ nextClosed (nodeAt (rowsOf (now (work .entry)) n) k) (rowsOf (now (work .entry)) n) ⌝ }
+{
+    let last = work[3 * k] % NODES;
+    let mut best = n;
+    let mut lowest = NODES;
+    let mut i = n;
+    while 0 < i {
+        i -= 1;
+        let number = work[3 * i] % NODES;
+        let rest = work[3 * i + 1];
+        if rest % 2 == 1 {
+            if last < number {
+                if number <= lowest {
+                    best = i;
+                    lowest = number;
+                }
             }
         }
     }

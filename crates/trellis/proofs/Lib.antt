@@ -30,3 +30,7 @@ pub mod Searched
 pub mod Cheaper
 pub mod Safe
 pub mod Answered
+pub mod HonestRanked
+pub mod NextClosed
+pub mod HonestRows
+pub mod Listing

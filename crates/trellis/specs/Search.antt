@@ -8,7 +8,7 @@ use Prim.Native.Nat.{ℕ, zero, suc, _+_, min}
 use lib.Dec.{eqb, ltb, leb}
 use lib.ListN.{length, getD, set}
 use Rattle.trellis.specs.Trellis.{Trellis, Path, Node, same, top, allowed, terminal}
-use Rattle.trellis.specs.Verdict.{Entry, entry, before, Verdict, answered, roomShort, allowanceSpent, tied}
+use Rattle.trellis.specs.Verdict.{Entry, entry, earlier, before, Verdict, answered, roomShort, allowanceSpent, tied}
 use Rattle.trellis.specs.Sheet.{onto}
 use Rattle.trellis.specs.Lawful.{messageOf}
 
@@ -61,6 +61,13 @@ firstOpen [] = 0
 firstOpen (r ∷ rows) =
     let rest : ℕ = firstOpen rows in
     cond (r .closed) (suc rest) (cond (ltb rest (length rows) && before (entryAt rows rest) (r .entry)) (suc rest) 0)
+
+-- the index of the closed row whose node comes next after x, by level, then state; the number of rows if there is none
+unfoldable pub nextClosed : Node → List Row → ℕ
+nextClosed x [] = 0
+nextClosed x (r ∷ rows) =
+    let rest : ℕ = nextClosed x rows in
+    cond (r .closed && earlier x (r .entry .node)) (cond (ltb rest (length rows) && earlier (nodeAt rows rest) (r .entry .node)) (suc rest) 0) (suc rest)
 
 -- a row at the end
 abbrev pub added : List Row → Row → List Row

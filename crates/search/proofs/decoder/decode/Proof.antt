@@ -1,146 +1,94 @@
--- `search::decoder::decode` meets its contract: each test decides a row of the definition, in its order, and past them what was seen
--- shows the view of the symbols, so that the search's verdict is theirs. Assumes nothing.
-use mathlib.Core.Path.{_≡_, refl, sym, ap, _∙_}
-use mathlib.Core.Bool.{true}
-use mathlib.Core.List.{List}
-use Prim.Native.Nat.{ℕ, _≤_}
+-- `search::decoder::decode` meets its contract: a refusal is settled; else the trace of the answer writes the verdict's message.
+-- Assumes nothing.
+use borrow.Author.Needs.{needs}
+use mathlib.Core.Path.{refl, sym, _∙_}
 use native.Mathlib.Omega.{arith}
-use borrow.Author.Needs.{length-unmapped}
-use borrow.Author.Tests.{not-true, not-false}
-use lib.IntN.{ℤ}
-use lib.ListN.{length, take}
-use Rattle.codes.specs.Codes.{lawful}
-use Rattle.codes.proofs.Rules.{Bounds, lawful-out}
-use Rattle.trellis.specs.Verdict.{verdict}
-use Rattle.blocks.specs.Symbols.{Seen, view}
+use lib.ListN.{length}
+use Rattle.blocks.specs.Symbols.{view}
 use Rattle.blocks.specs.Blocks.{trellisOf}
-use Rattle.blocks.specs.Packed.{packed, seenIn}
-use Rattle.blocks.proofs.Packing.{length-packed, seenIn-packed, see-part}
-use Rattle.blocks.proofs.Weights.{block-short}
-use Rattle.search.specs.Decoding.{told, sizesFit, given}
-use Rattle.search.specs.Work.{Sized}
-use Rattle.search.proofs.Decodings.{decoding-bad-code, decoding-bad-size, decoding-verdict}
+use Rattle.blocks.proofs.Closing.{trellis-lawful}
+use Rattle.search.specs.Settling.{Answer}
+use Rattle.search.proofs.Decodings.{decoding-verdict}
 use Rattle.search.proofs.Sizes.{Fit, sizesFit-out}
+use Rattle.search.proofs.Halting.{answer-traceable, answer-told}
+use Rattle.search.proofs.Refusals.{refused-tag}
 use Rattle.search.proofs.decoder.decode.Statement.{statement}
 use Rattle.search.proofs.decoder.decode.Tie as tie
 
--- ---- what is known past each test
+-- ---- what is settled
 
-abbrev entry : tie.Else1 → tie.Start
-entry c = c .before .before .before .before
+abbrev entry : tie.After-settle → tie.Start
+entry s = s .before .before .before .before
 
-code-lawful : (c : tie.Else1) → lawful (entry c .args .code) ≡ true
-code-lawful c = sym (c .before .keeps-rules .ensures) ∙ not-false _ (c .if1 .left)
+abbrev settled : tie.After-known-told → tie.After-settle
+settled k = k .before .before .before .before .before
 
-abbrev first : tie.Else2 → tie.Start
-first d = entry (d .before .before)
+-- the sizes that were tested
+sizes : (k : tie.After-known-told)
+    → let s = entry (settled k) in Fit (s .args .code) (s .args .length) (length (s .args .symbols .now)) (s .args .room) (length (s .args .work .now)) (length (s .args .message .now))
+sizes k = sizesFit-out _ _ _ _ _ _ (settled k .settle .ensures .fits _ _ (k .before .decoded .given .1))
 
-sizes-true : (d : tie.Else2)
-    → let s = first d in sizesFit (s .args .code) (s .args .length) (length (s .args .symbols .now)) (s .args .room) (length (s .args .work .now)) (length (s .args .message .now)) ≡ true
-sizes-true d = sym (d .before .sizes-fit .ensures) ∙ not-false _ (d .if2 .left)
-
-sizes : (d : tie.Else2)
-    → let s = first d in Fit (s .args .code) (s .args .length) (length (s .args .symbols .now)) (s .args .room) (length (s .args .work .now)) (length (s .args .message .now))
-sizes d = sizesFit-out _ _ _ _ _ _ (sizes-true d)
-
--- the local array has room for the longest block
-symbols-fit : (d : tie.Else2) → length (first d .args .symbols .now) ≤ 864
-symbols-fit d =
-    let s = first d in
-    omega (arith, sizes d .block, block-short (s .args .code) (s .args .length) (code-lawful (d .before .before)) (sizes d .long))
-
--- ---- what is lent on
-
-abbrev symbols : tie.After-see → List ℤ
-symbols a = first (a .before .before) .args .symbols .now
-
-abbrev part : tie.After-see → List ℕ
-part a = take (length (symbols a)) (a .see .last .1 .0)
-
-part-packed : (a : tie.After-see) → part a ≡ packed (view (symbols a))
-part-packed a = ap (take (length (symbols a))) (a .see .ensures) ∙ see-part (symbols a) _ (symbols-fit (a .before .before))
-
-part-view : (a : tie.After-see) → seenIn (part a) ≡ view (symbols a)
-part-view a = ap seenIn (part-packed a) ∙ seenIn-packed (symbols a)
-
-part-length : (a : tie.After-see) → length (part a) ≡ length (symbols a)
-part-length a = ap length (part-packed a) ∙ length-packed (symbols a)
-
-sized : (a : tie.After-see) → let s = first (a .before .before) in Sized (s .args .code) (s .args .length) (part a)
-sized a =
-    let d = a .before .before in
-    let s = first d in
-    let bounds : Bounds (s .args .code) = lawful-out (s .args .code) (code-lawful (d .before .before)) in
-    record {
-      code = code-lawful (d .before .before);
-      long = sizes d .long;
-      full = omega (arith, bounds .outputs-most, length-unmapped ℕ (s .args .code .generators) 4 (s .good .0 .1 .1 .1 .1 .0 .1 .0 .1));
-      block = part-length a ∙ sizes d .block;
-    }
+-- the answer, with its metric and its steps
+answer : (k : tie.After-known-told)
+    → let s = entry (settled k) in
+    let r = settled k .settle in
+    let v = k .before .decoded .given .0 in
+    Answer (trellisOf (s .args .code) (s .args .length) (view (s .args .symbols .now))) (s .args .room) (s .args .allowance) (s .args .work .now) (r .last .1 .1 .1 .1 .1 .0)
+    (v .0) (v .1 .0) (r .result .rows) (r .result .row)
+answer k = settled k .settle .ensures .answered _ _ (k .before .decoded .given .1)
 
 -- ---- the answers
 
-keeps-rules-requires : tie.Need-keeps-rules-requires
-keeps-rules-requires c κs = tt
+settle-requires : tie.Need-settle-requires
+settle-requires c κs = search needs
 
-returns : tie.Need-returns
-unfolding told
-returns c = sym (decoding-bad-code _ _ _ _ _ _ _ (sym (c .before .keeps-rules .ensures) ∙ not-true _ (c .if1 .taken)))
-
-sizes-fit-requires : tie.Need-sizes-fit-requires
-sizes-fit-requires c κs = code-lawful c
-
-returns-2 : tie.Need-returns-2
-unfolding told
-returns-2 c = sym (decoding-bad-size _ _ _ _ _ _ _ (code-lawful (c .before .before)) (sym (c .before .sizes-fit .ensures) ∙ not-true _ (c .if2 .taken)))
-
-slice-aggregate-see : tie.Need-slice-aggregate-see
-slice-aggregate-see c = refl
-
-see-requires : tie.Need-see-requires
-see-requires c κs = symbols-fit (c .before)
-
-array-share-prefix-seen : tie.Need-array-share-prefix-seen
-array-share-prefix-seen c = omega (arith, c .before .see .kept .1 .0, symbols-fit (c .before .before .before))
-
-slice-aggregate-search : tie.Need-slice-aggregate-search
-slice-aggregate-search c = sym (part-length (c .before .before))
-
-search-requires : tie.Need-search-requires
-search-requires c κs =
-    let a = c .before .before .before .before in
-    let d = a .before .before in
-    (sized a, record { small = sizes d .small; words = sizes d .memory; long = sizes d .buffer })
+enum-known-decoded : tie.Need-enum-known-decoded
+enum-known-decoded c = search needs
 
 same-length : tie.Need-same-length
-same-length c = c .before .before .before .before .search .kept .1 .1 .1 .1 .1 .0
+same-length c = search needs
+
+returns : tie.Need-returns
+returns c = c .before .before .before .settle .ensures .refused (refused-tag _ (c .match .keys2)) _ refl
+
+cast-last : tie.Need-cast-last
+cast-last c = search needs
+
+add-last : tie.Need-add-last
+add-last c = omega (arith, c .struct-known .given, sizes (c .before) .long)
+
+trace-requires : tie.Need-trace-requires
+trace-requires c κs =
+    let k = c .before .before .before in
+    let s = entry (settled k) in
+    (answer k .shows .stored, (answer-traceable (trellis-lawful (s .args .code) (s .args .length) (view (s .args .symbols .now))) (answer k), sizes k .buffer))
 
 same-length-2 : tie.Need-same-length-2
-same-length-2 c = c .before .before .before .before .search .kept .1 .1 .1 .1 .1 .1 .0
+same-length-2 c = search needs
 
-returns-3 : tie.Need-returns-3
-returns-3 c =
-    let r = c .before .before .before .before in
-    let a = r .before .before .before .before .before in
-    let d = a .before .before in
-    let s = first d in
-    r .search .ensures
-    ∙ ap (λ (block : List Seen). given (verdict (trellisOf (s .args .code) (s .args .length) block) (s .args .room) (s .args .allowance)) (s .args .message .now)) (part-view a)
-    ∙ sym (decoding-verdict _ _ _ _ _ _ _ (code-lawful (d .before .before)) (sizes-true d))
+same-length-3 : tie.Need-same-length-3
+same-length-3 c = search needs
+
+returns-2 : tie.Need-returns-2
+returns-2 c =
+    let t = c .before .before in
+    let k = t .before .before .before .before in
+    let s = entry (settled k) in
+    let e = k .before .decoded .given .1 in
+    answer-told (trellis-lawful (s .args .code) (s .args .length) (view (s .args .symbols .now))) (answer k) _ _ (t .trace .ensures)
+    ∙ sym (decoding-verdict _ _ _ _ _ _ _ (settled k .settle .ensures .lawful _ _ e) (settled k .settle .ensures .fits _ _ e))
 
 pub decode-spec : {M : Type 1} → statement M
 decode-spec =
     tie.close
     (tie.spec
-    keeps-rules-requires
-    returns
-    sizes-fit-requires
-    returns-2
-    slice-aggregate-see
-    see-requires
-    array-share-prefix-seen
-    slice-aggregate-search
-    search-requires
+    settle-requires
+    enum-known-decoded
     same-length
+    returns
+    cast-last
+    add-last
+    trace-requires
     same-length-2
-    returns-3)
+    same-length-3
+    returns-2)

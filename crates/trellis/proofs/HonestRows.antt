@@ -1,0 +1,110 @@
+-- The rows that a search leaves at the terminal, its row closed too, hold the honest sheet: the closed rows' entries are the sheet's,
+-- each node once. In which order they come is in Listing. Assumes nothing.
+use mathlib.Core.Path.{_≡_, sym, ap, _∙_}
+use mathlib.Core.Logic.{_⊎_, inl, inr}
+use mathlib.Core.List.{List, [], _∷_, _++_}
+use mathlib.Core.Bool.{true}
+use Prim.Native.Nat.{ℕ, suc, _≤_, _<_}
+use native.Mathlib.Decide.{ℕ-discrete}
+use native.Mathlib.Omega.{arith}
+use lib.ListN.{length, take}
+use Rattle.lists.specs.Lists.{_∈_}
+use Rattle.lists.proofs.Membership.{here, append-left, append-right, append-out, singleton-out, member-cast}
+use Rattle.trellis.specs.Trellis.{Trellis, terminal}
+use Rattle.trellis.specs.Verdict.{Entry, entry, ranked, steps, leastMetric}
+use Rattle.trellis.specs.Sheet.{honest}
+use Rattle.trellis.specs.Lawful.{Lawful}
+use Rattle.trellis.specs.Search.{Row, rowAt, entryAt, nodeAt, costAt, firstOpen, shut, closed, found, Ended, searched}
+use Rattle.trellis.proofs.HonestRanked.{honest-front, front-honest}
+use Rattle.trellis.proofs.Rows.{true-false, Changed, set-changed, First, firstOpen-unique}
+use Rattle.trellis.proofs.Table.{Stored}
+use Rattle.trellis.proofs.Between.{Between, between-next}
+use Rattle.trellis.proofs.Found.{found-right}
+use Rattle.trellis.proofs.Run.{Ending, no-room, at-terminal, out-of-room, out-of-steps, searched-ending}
+
+-- the closed rows hold the sheet: each of its entries once, and nothing else; the origin has the first row
+pub record Holds (sheet : List Entry) (rows : List Row) : Type 0 where
+  pub some : 0 < length rows
+  pub first : entryAt rows 0 ≡ entry 0 0 0
+  pub once : (i k : ℕ) → i < length rows → k < length rows → nodeAt rows i ≡ nodeAt rows k → i ≡ k
+  pub listed : (i : ℕ) → i < length rows → rowAt rows i .closed ≡ true → entryAt rows i ∈ sheet
+  pub stored : (e : Entry) → e ∈ sheet → Stored rows e
+
+module _ {t : Trellis} (law : Lawful t) {cap room j i : ℕ} {rows : List Row} (M : Between t cap room j rows)
+    (f : First rows i) (h : i < length rows) (e : nodeAt rows i ≡ terminal t) where
+  abbrev after : List Row
+  after = closed rows i
+
+  C : Changed rows after i (shut (rowAt rows i))
+  C = set-changed rows i (shut (rowAt rows i)) h
+
+  -- a row keeps its entry
+  entry-same : (k : ℕ) → k < length after → entryAt after k ≡ entryAt rows k
+  entry-same k u = go (ℕ-discrete k i)
+    where
+      go : Dec (k ≡ i) → entryAt after k ≡ entryAt rows k
+      go (yes q) = rw q (ap (λ (r : Row). r .entry) (C .here))
+      go (no d) = ap (λ (r : Row). r .entry) (C .others k u d)
+
+  -- the first E + 1 ranked nodes
+  grows : take (suc (steps t)) (ranked t) ≡ take j (ranked t) ++ (entryAt rows i ∷ [])
+  grows = rw (found-right law M f h e .ended) (between-next M f h .grows)
+
+  -- THE ROWS LEFT: with the terminal's row closed they hold the honest sheet of the least metric
+  pub found-holds : Holds (honest t (leastMetric t)) (closed rows i)
+  found-holds = record {
+    some = omega (arith, M .table .some, C .longer);
+    first = entry-same 0 (omega (arith, M .table .some, C .longer)) ∙ M .table .first;
+    once = (λ k l u v q. M .table .once k l (inside k u) (inside l v)
+        (ap (λ (x : Entry). x .node) (sym (entry-same k u)) ∙ q ∙ ap (λ (x : Entry). x .node) (entry-same l v)));
+    listed = (λ k u c. member-cast (entry-same k u) (front-honest law (entryAt rows k) (rw grows (listed′ k u c (ℕ-discrete k i)))));
+    stored = (λ x m. stored′ x (append-out (take j (ranked t)) (rw grows at (honest-front law x m))));
+  }
+    where
+      inside : (k : ℕ) → k < length after → k < length rows
+      inside k u = go (ℕ-discrete k i)
+        where
+          go : Dec (k ≡ i) → k < length rows
+          go (yes q) = omega arith
+          go (no d) = C .older k u d
+
+      listed′ : (k : ℕ) → k < length after → rowAt after k .closed ≡ true → Dec (k ≡ i) → entryAt rows k ∈ (take j (ranked t) ++ (entryAt rows i ∷ []))
+      listed′ k u c (yes q) = append-right (take j (ranked t)) (here (ap (entryAt rows) q))
+      listed′ k u c (no d) = append-left (entryAt rows i ∷ []) (M .table .shut k (C .older k u d) (ap (λ (r : Row). r .closed) (sym (C .others k u d)) ∙ c))
+
+      stored′ : (x : Entry) → (x ∈ take j (ranked t)) ⊎ (x ∈ (entryAt rows i ∷ [])) → Stored after x
+      stored′ x (inl m) = go (M .table .stored x m)
+        where
+          apart : (s : Stored rows x) → s .row ≡ i → ⊥
+          apart s q = true-false (sym (s .shut) ∙ ap (λ (k : ℕ). rowAt rows k .closed) q ∙ f .live h)
+
+          go : Stored rows x → Stored after x
+          go s =
+              let u : s .row < length after = omega (arith, s .within, C .longer) in
+              record { row = s .row; within = u; shut = ap (λ (r : Row). r .closed) (C .others (s .row) u (apart s)) ∙ s .shut; equal = entry-same (s .row) u ∙ s .equal }
+      stored′ x (inr m) = record {
+        row = i;
+        within = C .within;
+        shut = ap (λ (r : Row). r .closed) (C .here);
+        equal = entry-same i (C .within) ∙ sym (singleton-out m);
+      }
+
+-- for the writer: the row of the terminal is the first open one, and closing it leaves the honest sheet in the rows
+pub record Left (t : Trellis) (rows : List Row) (i : ℕ) : Type 0 where
+  pub within : i < length rows
+  pub first : i ≡ firstOpen rows
+  pub holds : Holds (honest t (leastMetric t)) (closed rows i)
+
+pub searched-left : {t : Trellis} → Lawful t → (cap room allowance : ℕ) → 1 ≤ cap → (metric done count i : ℕ) → searched t cap room allowance .outcome ≡ found metric done count i
+    → Left t (searched t cap room allowance .rows) i
+searched-left {t} law cap room allowance one metric done count i = go (searched-ending law cap room allowance one)
+  where
+    go : {e : Ended} → Ending t cap room allowance e → e .outcome ≡ found metric done count i → Left t (e .rows) i
+    go (no-room z e) p = let n : _≡_ {A = ℕ} 0 1 = cc (e, p) in absurd (omega arith)
+    go (at-terminal j k rows M f h q l e) p =
+        let w : found (costAt rows k) j (rowAt rows k .count) k ≡ found metric done count i = ap (λ (x : Ended). x .outcome) (sym e) ∙ p in
+        let m : k ≡ i = cc (w) in
+        let r : rows ≡ _ = ap (λ (x : Ended). x .rows) (sym e) in
+        rw (← r, ← m) (record { within = h; first = firstOpen-unique rows k f; holds = found-holds law M f h q })
+    go (out-of-room j rows h k r q e) p = let n : _≡_ {A = ℕ} 0 1 = cc (e, p) in absurd (omega arith)
+    go (out-of-steps rows h r e) p = let n : _≡_ {A = ℕ} 0 1 = cc (e, p) in absurd (omega arith)
