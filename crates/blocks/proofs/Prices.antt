@@ -1,22 +1,22 @@
 -- The branches as the program prices them: a branch of a node below the top stays within the block, and the price of a branch place
 -- by place, by the work that is left. Assumes nothing.
-use mathlib.Core.Path.{_≡_, refl, sym, ap, _∙_}
+use mathlib.Core.Path.{_≡_, ap, _∙_}
 use mathlib.Core.List.{List}
-use mathlib.Core.Bool.{Bool, true, false, cond}
-use Prim.Native.Nat.{ℕ, suc, _+_, _*_, _/_, _^_, _≤_, _<_}
+use mathlib.Core.Bool.{true, cond}
+use Prim.Native.Nat.{ℕ, suc, _+_, _*_, _^_, _≤_, _<_}
 use native.Mathlib.Nat.{mul-le-mul-right, mul-comm, suc-mul}
+use native.Mathlib.Numerals.{add-one}
 use native.Mathlib.Omega.{arith}
 use lib.Dec.{eqb}
 use lib.ListN.{length, getD, drop, drop-of-length-le}
 use lib.Seq.{drop-cons}
-use native.Mathlib.Numerals.{add-one}
 use Rattle.codes.specs.declared.table.Code.{Code}
 use Rattle.codes.specs.Codes.{lawful, blockLength}
 use Rattle.trellis.specs.Trellis.{allowed}
 use Rattle.trellis.proofs.Paths.{allowed-top}
 use Rattle.blocks.specs.Symbols.{Seen}
 use Rattle.blocks.specs.Blocks.{distance, trellisOf}
-use Rattle.blocks.specs.Packed.{Priceable}
+use Rattle.blocks.specs.Packed.{Priceable, greatestToll}
 use Rattle.blocks.proofs.Closing.{input-bit}
 use Rattle.blocks.proofs.Distance.{distance-at}
 
@@ -39,15 +39,10 @@ priceable c l symbols level state input block k e s i = record {
 
 -- ---- place by place
 
--- for the sum's width: a place costs at most half of the largest number of 16 bits
-pub paid-small : (same : Bool) (x : ℕ) → x < 65536 → cond same 0 (x / 2) ≤ 32767
-paid-small true x h = omega arith
-paid-small false x h = omega arith
-
 -- A branch is being priced: j outputs are paid for, and what is left of them completes the distance.
 pub record Pricing (outputs : List ℕ) (block : List Seen) (first total j : ℕ) : Type 0 where
   pub within : j ≤ length outputs
-  pub small : total ≤ 32767 * j
+  pub small : total ≤ greatestToll * j
   pub left : total + distance (drop j outputs) (drop (first + j) block) ≡ distance outputs (drop first block)
 
 module _ (outputs : List ℕ) (block : List Seen) (first : ℕ) where
@@ -57,7 +52,7 @@ module _ (outputs : List ℕ) (block : List Seen) (first : ℕ) where
 
   module _ (total j : ℕ) (p : Pricing outputs block first total j) where
     -- for the loop's next turn: one place is paid for
-    pub pricing-next : (d : ℕ) (e : Seen) (paid : ℕ) → j < length outputs → first + j < length block → paid ≤ 32767
+    pub pricing-next : (d : ℕ) (e : Seen) (paid : ℕ) → j < length outputs → first + j < length block → paid ≤ greatestToll
         → paid ≡ cond (eqb (getD outputs j d) (getD block (first + j) e .hardBit)) 0 (getD block (first + j) e .weight)
         → Pricing outputs block first (total + paid) (j + 1)
     pricing-next d e paid h k s q =

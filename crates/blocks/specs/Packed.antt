@@ -6,6 +6,7 @@ use mathlib.Core.List.{List, map}
 use mathlib.Core.Bool.{true}
 use Prim.Native.Nat.{ℕ, _+_, _*_, _/_, _%_, _^_, _≤_, _<_}
 use Rattle.codes.specs.declared.table.Code.{Code}
+use Rattle.codes.specs.Limits.{mostOutputs}
 use Rattle.codes.specs.Codes.{lawful}
 use Rattle.blocks.specs.Symbols.{Seen}
 
@@ -34,6 +35,9 @@ pub record Priceable (c : Code) (symbols level state input : ℕ) : Type 0 where
   pub state-below : state < 2 ^ c .memory
   pub input-bit : input ≤ 1
 
--- four outputs, each at most half of the largest number of 16 bits
+-- what a place costs at most: half of the largest number of 16 bits
+abbrev pub greatestToll : ℕ
+greatestToll = 32767
+
 abbrev pub greatestPrice : ℕ
-greatestPrice = 131068
+greatestPrice = mostOutputs * greatestToll

@@ -8,21 +8,25 @@ ghost use mathlib.Core.List.{List};
 ghost use Prim.Native.Nat.{_/_, _%_, _^_, _≤_, _<_};
 ghost use lib.Dec.{eqb};
 ghost use lib.ListN.{length};
+ghost use Rattle.codes.specs.Limits.{mostMemory};
 ghost use Rattle.codes.specs.Codes.{nextState};
 ghost use Rattle.trellis.specs.Trellis.{allowed};
 ghost use Rattle.blocks.specs.Symbols.{Seen};
 ghost use Rattle.blocks.specs.Blocks.{branchCost, trellisOf};
-ghost use Rattle.blocks.specs.Packed.{seenIn, Priceable, greatestPrice};
+ghost use Rattle.blocks.specs.Packed.{seenIn, Priceable, greatestToll, greatestPrice};
+
+const MESSAGE_INPUTS: u64 = 2;
+
+const TAIL_INPUTS: u64 = 1;
 
 // How many inputs a level allows: two in the message, one in the tail, none at the top.
 pub fn allowed(code: Code, length: u64, level: u64) -> u64
-    requires { ⌜ (length ≤ 200) × (code .memory ≤ 16) ⌝ }
     ensures { λ r. ⌜ ((block : List Seen) → r ≡ allowed (trellisOf code length block) level) ⌝ }
 {
     if level < length {
-        2
-    } else if level < length + code.memory as u64 {
-        1
+        MESSAGE_INPUTS
+    } else if level - length < code.memory as u64 {
+        TAIL_INPUTS
     } else {
         0
     }
@@ -30,14 +34,16 @@ pub fn allowed(code: Code, length: u64, level: u64) -> u64
 
 // The state that a branch leads to.
 pub fn next(code: Code, state: u64, input: u64) -> u64
-    requires { ⌜ (code .memory ≤ 16) × (state < 2 ^ code .memory) × (input ≤ 1) ⌝ }
+    requires { ⌜ (code .memory ≤ mostMemory) × (state < 2 ^ code .memory) × (input ≤ 1) ⌝ }
     ensures { λ r. ⌜ (r ≡ nextState (code .memory) input state) × (r < 2 ^ code .memory) ⌝ }
 {
-    let register = Register {
+    let narrow = state as u32;
+    let before = Register {
         memory: code.memory,
-        state: state as u32,
+        state: narrow,
     };
-    register.next(input as u8).state as u64
+    let after = before.next(input as u8);
+    after.state as u64
 }
 
 // What a branch costs: the weights of its level's symbols whose hard bit its output differs from.
@@ -47,10 +53,12 @@ pub fn price(code: Code, seen: &[u16], level: u64, state: u64, input: u64) -> u6
 {
     let n = code.outputs as usize;
     let generators = code.generators;
-    let register = Register {
+    let narrow = state as u32;
+    let before = Register {
         memory: code.memory,
-        state: state as u32,
-    }.with(input as u8);
+        state: narrow,
+    };
+    let register = before.with(input as u8);
     let first = (level as usize) * n;
     let mut total = 0u64;
     let mut j = 0usize;
@@ -63,7 +71,7 @@ pub fn price(code: Code, seen: &[u16], level: u64, state: u64, input: u64) -> u6
 
 // What one place costs: its weight, unless the output is its hard bit.
 fn toll(output: u8, seen: u16) -> u64
-    ensures { λ r. ⌜ r ≡ cond (eqb output (seen % 2)) 0 (seen / 2) ⌝ }
+    ensures { λ r. ⌜ (r ≡ cond (eqb output (seen % 2)) 0 (seen / 2)) × (r ≤ greatestToll) ⌝ }
 {
     if output as u16 == seen % 2 {
         0

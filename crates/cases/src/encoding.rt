@@ -1,12 +1,13 @@
 // The blocks to try that concern the encoder. A buffer is filled with 9s before each call, so that what is untouched shows.
-use crate::print::count;
-use crate::print::digits;
-use crate::print::number;
-use crate::print::text;
+use crate::lent::bytes;
 use codes::encoder::Encoded;
 use codes::encoder::encode;
 use codes::table::Code;
 use codes::table::house;
+use show::count;
+use show::digits;
+use show::text;
+use show::word;
 
 // Answered: cases 1 to 3, the longest message, the longest block, every house code.
 pub fn answered() {
@@ -48,7 +49,7 @@ pub fn refused() {
 }
 
 // The code with the most outputs and the most memory.
-fn wide() -> Code {
+pub fn wide() -> Code {
     Code {
         outputs: 4,
         memory: 16,
@@ -66,7 +67,7 @@ fn code(outputs: u32, memory: u32, one: u32, two: u32) -> Code {
 
 // One case, with a buffer of the room's size.
 fn line(name: &[u8], code: Code, message: &[u8], room: usize) {
-    let mut out = [9u8; 1024];
+    let mut out = bytes();
     if room <= 1024 {
         text(name);
         tried(code, message, &mut out[..room]);
@@ -75,6 +76,7 @@ fn line(name: &[u8], code: Code, message: &[u8], room: usize) {
 
 // What goes in, the answer, and the buffer as it is then.
 fn tried(code: Code, message: &[u8], out: &mut [u8]) {
+    text(b"encode ");
     describe(code);
     text(b" message ");
     digits(message, 8);
@@ -83,16 +85,16 @@ fn tried(code: Code, message: &[u8], out: &mut [u8]) {
     text(b"\n");
 }
 
-fn describe(code: Code) {
+pub fn describe(code: Code) {
     let generators = code.generators;
-    text(b"encode n=");
-    count(code.outputs);
+    text(b"n=");
+    word(code.outputs);
     text(b" m=");
-    count(code.memory);
+    word(code.memory);
     text(b" (");
-    count(generators[0]);
+    word(generators[0]);
     text(b", ");
-    count(generators[1]);
+    word(generators[1]);
     text(b")");
 }
 
@@ -100,7 +102,7 @@ fn report(answer: Encoded) {
     match answer {
         Encoded::Done(n) => {
             text(b": 0 done, ");
-            number(n as u64);
+            count(n);
             text(b" symbols, buffer ");
         }
         Encoded::BadCode => text(b": 1 code outside the rules, buffer "),

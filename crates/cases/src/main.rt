@@ -1,9 +1,13 @@
 // The blocks to try of document 01, as the program answers them: one line a case, first what goes in, then what comes out.
+mod decoding;
 mod encoding;
-mod print;
+mod lent;
 
 fn main() {
-    print::text(b"case what goes in, and what comes out\n");
+    show::text(b"case what goes in, and what comes out\n");
     encoding::answered();
     encoding::refused();
+    decoding::small();
+    decoding::large();
+    decoding::sizes();
 }

@@ -1,12 +1,12 @@
 -- Laws of the register: powers of the memory fit, the state stays a state, and the shared ones are counted pair by pair.
 -- Assumes nothing.
-use mathlib.Core.Path.{_≡_, refl, ap}
+use mathlib.Core.Path.{_≡_, ap}
 use Prim.Native.Nat.{ℕ, zero, suc, _+_, _*_, _/_, _%_, _^_, _<_, _≤_, min}
 use native.Mathlib.Omega.{arith}
 use lib.Bits.{bitAnd, and-step, and-zero-l}
 use lib.Count.{ones, onesIn, ones-step}
 use lib.Pow.{pow-mono}
-use Rattle.codes.specs.Codes.{registerOf, nextState}
+use Rattle.codes.specs.Codes.{nextState}
 
 -- ---- powers
 

@@ -1,19 +1,15 @@
 -- What the code rule says, as bounds, and that the house codes keep it. Assumes nothing.
 use mathlib.Core.Path.{_≡_, refl}
-use mathlib.Core.Bool.{Bool, true, false, _&&_, false≢true}
+use mathlib.Core.Bool.{true, _&&_}
 use Prim.Native.Nat.{ℕ, _+_, _-_, _^_, _≤_, _<_}
 use borrow.Author.Tests.{leb-true}
 use lib.Dec.{leb}
 use Rattle.lists.specs.Lists.{all}
 use Rattle.lists.proofs.Scan.{all-within}
+pub use Rattle.lists.proofs.Tests.{both}
 use Rattle.codes.specs.Codes.{from, generatorsOf, lawful, houseCodes, houseCode}
 use Rattle.codes.specs.Limits.{fewestOutputs, mostOutputs, leastMemory, mostMemory}
 use Rattle.codes.specs.declared.table.Code.{Code}
-
--- for every test that is a conjunction
-pub both : (a b : Bool) → (a && b) ≡ true → (a ≡ true) × (b ≡ true)
-both true b h = (refl, h)
-both false b h = absurd (false≢true h)
 
 -- for every number between two bounds
 pub from-out : (low high x : ℕ) → from low high x ≡ true → (low ≤ x) × (x ≤ high)

@@ -1,8 +1,8 @@
 -- A loop that tests the members of a list one by one, by the work that is left: what `all` says of the list behind place i.
 -- First the step, then the two ends, then what a test of all says of one place. Assumes nothing.
-use mathlib.Core.Path.{_≡_, refl}
+use mathlib.Core.Path.{_≡_}
 use mathlib.Core.List.{List, [], _∷_}
-use mathlib.Core.Bool.{Bool, true, false, _&&_, false≢true}
+use mathlib.Core.Bool.{Bool, true, false}
 use Prim.Native.Nat.{ℕ, zero, suc, _+_, _≤_, _<_}
 use native.Mathlib.Nat.{le-of-suc-le-suc}
 use native.Mathlib.Numerals.{add-one}
@@ -10,6 +10,7 @@ use native.Mathlib.Omega.{arith}
 use lib.ListN.{length, getD, drop, drop-of-length-le}
 use lib.Seq.{drop-cons}
 use Rattle.lists.specs.Lists.{all}
+use Rattle.lists.proofs.Tests.{both}
 
 module _ {A : Type 0} (p : A → Bool) (l : List A) (d : A) (i : ℕ) where
   -- for the loop's next turn: the member at i passed
@@ -30,11 +31,7 @@ module _ {A : Type 0} (p : A → Bool) (l : List A) (d : A) (i : ℕ) where
 module _ {A : Type 0} (p : A → Bool) where
   all-cons : (x : A) (l : List A) → all p (x ∷ l) ≡ true → (p x ≡ true) × (all p l ≡ true)
   unfolding all
-  all-cons x l h = go (p x) h
-    where
-      go : (b : Bool) → (b && all p l) ≡ true → (b ≡ true) × (all p l ≡ true)
-      go true k = (refl, k)
-      go false k = absurd (false≢true k)
+  all-cons x l h = both (p x) (all p l) h
 
   -- for a read within the list
   pub all-within : (l : List A) (d : A) (i : ℕ) → i < length l → all p l ≡ true → p (getD l i d) ≡ true

@@ -2,7 +2,7 @@
 -- Not here: tests on numbers (lib.Dec; borrow.Author.Tests), a test and its negation (T-not, not-T in lib.Dec). Assumes nothing.
 use mathlib.Core.Path.{_≡_, refl}
 use mathlib.Core.Logic.{_⊎_, inl, inr}
-use mathlib.Core.Bool.{Bool, true, false, _&&_, _||_}
+use mathlib.Core.Bool.{Bool, true, false, _&&_, _||_, false≢true}
 use lib.Dec.{T}
 
 -- to split a proof on a test
@@ -41,3 +41,8 @@ or-right false b h = h
 pub or-out : (a b : Bool) → T (a || b) → T a ⊎ T b
 or-out true b h = inl tt
 or-out false b h = inr h
+
+-- for tests that are compared with true, as contracts have them
+pub both : (a b : Bool) → (a && b) ≡ true → (a ≡ true) × (b ≡ true)
+both true b h = (refl, h)
+both false b h = absurd (false≢true h)

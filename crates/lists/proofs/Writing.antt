@@ -1,7 +1,7 @@
 -- A loop that writes a list over a buffer, element by element or piece by piece, by the work that is left: writing what is left over
 -- the buffer as it is gives what writing all of it over the first buffer gives. `sets l i vs` is l with vs written from place i on.
 -- First the two steps, then the end. Assumes nothing.
-use mathlib.Core.Path.{_≡_, refl, ap, _∙_}
+use mathlib.Core.Path.{_≡_, ap, _∙_}
 use mathlib.Core.List.{List, [], _∷_, _++_}
 use Prim.Native.Nat.{ℕ, suc, _+_, _≤_, _<_}
 use native.Mathlib.Numerals.{add-one}

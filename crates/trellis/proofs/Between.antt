@@ -5,23 +5,23 @@ use mathlib.Core.Path.{_≡_, refl, sym, ap, _∙_, subst}
 use mathlib.Core.Logic.{_⊎_, inl, inr}
 use mathlib.Core.List.{List, [], _∷_, _++_}
 use mathlib.Core.Bool.{Bool, true, false}
-use Prim.Native.Nat.{ℕ, zero, suc, _+_, _≤_, _<_, min}
+use Prim.Native.Nat.{ℕ, zero, suc, _≤_, _<_, min}
 use native.Mathlib.Decide.{decLt}
 use native.Mathlib.Omega.{arith}
 use lib.Dec.{T}
 use lib.ListN.{length, take}
 use Rattle.lists.specs.Lists.{_∈_, keep}
-use Rattle.lists.proofs.Membership.{here, nil-out, member-cast, take-out, keep-in, keep-out}
+use Rattle.lists.proofs.Membership.{nil-out, member-cast, take-out, keep-in, keep-out}
 use Rattle.lists.proofs.Unique.{keep-unique}
-use Rattle.trellis.specs.Trellis.{Trellis, Path, Node, origin, terminal, allowed, cost}
+use Rattle.trellis.specs.Trellis.{Trellis, terminal}
 use Rattle.trellis.specs.Verdict.{Entry, entry, priced, before, ranked, met}
 use Rattle.trellis.specs.Sheet.{onto}
-use Rattle.trellis.specs.Search.{Row, rowAt, started, firstOpen}
-use Rattle.trellis.proofs.Paths.{Ends, Reached, node-path}
+use Rattle.trellis.specs.Search.{Row, rowAt, entryAt, nodeAt, costAt, started, firstOpen}
+use Rattle.trellis.proofs.Paths.{Reached, node-path}
 use Rattle.trellis.proofs.Cost.{cost-computed}
 use Rattle.trellis.proofs.Order.{before-order, entry-path, onto-later}
 use Rattle.trellis.proofs.Ranked.{Priced, ranked-out}
-use Rattle.trellis.proofs.Step.{AtMost, at-most-before, Attains, Closed, Offered, Frontier, all-closed, ranked-after, next-exact, next-ranked}
+use Rattle.trellis.proofs.Step.{AtMost, at-most-before, Attained, Closed, Offered, Frontier, all-closed, ranked-after, next-exact, next-ranked}
 use Rattle.trellis.proofs.Sharing.{Branch, branch, lands, Fits, LeastBranches, shared, starting, total, sharing-total}
 use Rattle.trellis.proofs.Rows.{true-false, First, firstOpen-is}
 use Rattle.trellis.proofs.Table.{alike, alike-equality, arriving, ways, Covered, Table, Taken}
@@ -37,6 +37,7 @@ pub record Between (t : Trellis) (cap room j : ℕ) (rows : List Row) : Type 0 w
 
 -- ---- the start
 
+-- the origin alone, before the first step
 pub started-between : (t : Trellis) (cap room : ℕ) → 1 ≤ cap → 1 ≤ room → Between t cap room 0 started
 unfolding ways starting total keep
 started-between t cap room c r = record {
@@ -66,7 +67,7 @@ started-between t cap room c r = record {
     live zero h e = true-false (sym e)
     live (suc i) h e = omega arith
 
-    counted′ : (i : ℕ) → i < 1 → rowAt started i .count ≡ min cap (ways t [] (rowAt started i .entry))
+    counted′ : (i : ℕ) → i < 1 → rowAt started i .count ≡ min cap (ways t [] (entryAt started i))
     counted′ zero h = omega arith
     counted′ (suc i) h = absurd (omega arith)
 
@@ -77,26 +78,31 @@ pub record OpenRow (rows : List Row) (e : Entry) : Type 0 where
   pub row : ℕ
   pub within : row < length rows
   pub live : rowAt rows row .closed ≡ false
-  pub equal : rowAt rows row .entry ≡ e
+  pub equal : entryAt rows row ≡ e
 
 -- one of the first j ranked nodes has its own cost
 closed-in : (t : Trellis) (j : ℕ) (e : Entry) → e ∈ take j (ranked t) → Closed t j (e .node)
 closed-in t j e m = member-cast (entry-path (sym (cost-computed (ranked-out t (take-out j (ranked t) e m)))) refl) m
 
-module _ (t : Trellis) (cap room j : ℕ) (rows : List Row) (M : Between t cap room j rows) where
+module _ {t : Trellis} {cap room j : ℕ} {rows : List Row} (M : Between t cap room j rows) where
   -- an open row's node is not closed
-  pub open-apart : (i : ℕ) → i < length rows → rowAt rows i .closed ≡ false → Closed t j (rowAt rows i .entry .node) → ⊥
+  pub open-apart : (i : ℕ) → i < length rows → rowAt rows i .closed ≡ false → Closed t j (nodeAt rows i) → ⊥
   open-apart i h e m =
-      let s = M .table .stored (priced t (rowAt rows i .entry .node)) m in
+      let s = M .table .stored (priced t (nodeAt rows i)) m in
       let k : s .row ≡ i = M .table .once (s .row) i (s .within) h (ap (λ (u : Entry). u .node) (s .equal)) in
       true-false (sym (s .shut) ∙ ap (λ (u : ℕ). rowAt rows u .closed) k ∙ e)
 
   -- the open rows are the frontier of the closed nodes
   pub frontier-rows : Frontier t j (OpenRow rows)
   frontier-rows = record {
-    start = offer (entry 0 0 0) (record { row = 0; within = M .table .some; equal = ap (λ (e : Entry). e .node) (M .table .first); small = omega (arith, ap (λ (e : Entry). e .cost) (M .table .first)) });
+    start = offer (entry 0 0 0) (record {
+      row = 0;
+      within = M .table .some;
+      equal = ap (λ (e : Entry). e .node) (M .table .first);
+      small = omega (arith, ap (λ (e : Entry). e .cost) (M .table .first));
+    });
     front = (λ e b m u. offer (onto t e b) (pick (branch e b) (M .all .full (branch e b) m u)));
-    reached = (λ e o. subst (λ (u : Entry). (p : Path) × Attains t u p) (o .equal) (row-attained t cap j (M .taken) rows (M .table) (o .row) (o .within)));
+    reached = (λ e o. subst (Attained t) (o .equal) (row-attained (M .table) (o .row) (o .within)));
     apart = (λ e o k. open-apart (o .row) (o .within) (o .live) (subst (λ (u : Entry). Closed t j (u .node)) (sym (o .equal)) k));
   }
     where
@@ -109,12 +115,14 @@ module _ (t : Trellis) (cap room j : ℕ) (rows : List Row) (M : Between t cap r
       offer e k = go (rowAt rows (k .row) .closed) refl
         where
           go : (shut : Bool) → rowAt rows (k .row) .closed ≡ shut → Closed t j (e .node) ⊎ Offered (OpenRow rows) e
-          go true c = inl (rw (k .equal) at (closed-in t j (rowAt rows (k .row) .entry) (M .table .shut (k .row) (k .within) c)))
-          go false c = inr (record { cost = rowAt rows (k .row) .entry .cost; here = record { row = k .row; within = k .within; live = c; equal = entry-path refl (k .equal) }; small = k .small })
+          go true c = inl (rw (k .equal) at (closed-in t j (entryAt rows (k .row)) (M .table .shut (k .row) (k .within) c)))
+          go false c =
+              let o : OpenRow rows (record { cost = costAt rows (k .row); node = e .node }) = record { row = k .row; within = k .within; live = c; equal = entry-path refl (k .equal) } in
+              inr (record { cost = costAt rows (k .row); here = o; small = k .small })
 
   -- the rows are as many as D(j)
   pub between-met : length rows ≡ met t j
-  between-met = rows-met t cap j (M .taken) rows (M .table) (M .all)
+  between-met = rows-met (M .table) (M .all)
 
   -- there is an open row, if the terminal can be reached at all
   pub between-open : Reached t (terminal t) → firstOpen rows < length rows
@@ -123,28 +131,28 @@ module _ (t : Trellis) (cap room j : ℕ) (rows : List Row) (M : Between t cap r
       go : Dec (firstOpen rows < length rows) → firstOpen rows < length rows
       go (yes h) = h
       go (no h) =
-          let k : Closed t j _ = all-closed t j (OpenRow rows) frontier-rows (λ e o. h (firstOpen-is rows .some (o .row) (o .within) (o .live))) (r .there .allowed) in
+          let k : Closed t j _ = all-closed frontier-rows (λ e o. h (firstOpen-is rows .some (o .row) (o .within) (o .live))) (r .there .allowed) in
           absurd (M .table .ahead (subst (Closed t j) (node-path (r .there .level) (r .there .state)) k))
 
 -- ---- the first open row
 
 -- z, in row i, is the next ranked node: its cost is right, and its count is that of its least paths
 pub record Next (t : Trellis) (cap j i : ℕ) (rows : List Row) : Type 0 where
-  pub grows : take (suc j) (ranked t) ≡ take j (ranked t) ++ (rowAt rows i .entry ∷ [])
-  pub known : Priced t (rowAt rows i .entry)
-  pub counted : rowAt rows i .count ≡ min cap (shared t (rowAt rows i .entry))
+  pub grows : take (suc j) (ranked t) ≡ take j (ranked t) ++ (entryAt rows i ∷ [])
+  pub known : Priced t (entryAt rows i)
+  pub counted : rowAt rows i .count ≡ min cap (shared t (entryAt rows i))
 
-module _ (t : Trellis) (cap room j i : ℕ) (rows : List Row) (M : Between t cap room j rows) (f : First rows i) (h : i < length rows) where
+module _ {t : Trellis} {cap room j i : ℕ} {rows : List Row} (M : Between t cap room j rows) (f : First rows i) (h : i < length rows) where
   abbrev z : Entry
-  z = rowAt rows i .entry
+  z = entryAt rows i
 
   zin : OpenRow rows z
   zin = record { row = i; within = h; live = f .live h; equal = refl }
 
   zmin : (e : Entry) → OpenRow rows e → AtMost z e
-  zmin e o = subst (λ (u : Entry). AtMost z u) (o .equal) (go (before-order .total z (rowAt rows (o .row) .entry)))
+  zmin e o = subst (λ (u : Entry). AtMost z u) (o .equal) (go (before-order .total z (entryAt rows (o .row))))
     where
-      go : T (before z (rowAt rows (o .row) .entry)) ⊎ ((z ≡ rowAt rows (o .row) .entry) ⊎ T (before (rowAt rows (o .row) .entry) z)) → AtMost z (rowAt rows (o .row) .entry)
+      go : T (before z (entryAt rows (o .row))) ⊎ ((z ≡ entryAt rows (o .row)) ⊎ T (before (entryAt rows (o .row)) z)) → AtMost z (entryAt rows (o .row))
       go (inl b) = inr b
       go (inr (inl e)) = inl e
       go (inr (inr b)) = absurd (f .least (o .row) (o .within) (o .live) b)
@@ -156,7 +164,9 @@ module _ (t : Trellis) (cap room j i : ℕ) (rows : List Row) (M : Between t cap
     known = (λ g m. ranked-out t (take-out j (ranked t) (g .source) (M .all .sources g (kept g m .member))));
     fits = (λ g m. M .all .fits g (kept g m .member));
     lands-there = (λ g m. alike-equality .sound (lands t g) z (kept g m .passes));
-    full = (λ g p u e. keep-in (λ g. alike (lands t g) z) (inside g p u e (ranked-after t j (OpenRow rows) (frontier-rows t cap room j rows M) z zin zmin (g .source) p)) (subst (λ (x : Entry). T (alike (lands t g) x)) e (alike-equality .complete (lands t g))));
+    full = (λ g p u e.
+        keep-in (λ g. alike (lands t g) z) (inside g p u e (ranked-after (frontier-rows M) z zin zmin (g .source) p))
+        (subst (λ (x : Entry). T (alike (lands t g) x)) e (alike-equality .complete (lands t g))));
   }
     where
       kept : (g : Branch) → g ∈ arriving t (M .taken) z → Rattle.lists.proofs.Membership.Kept (λ g. alike (lands t g) z) (M .taken) g
@@ -169,15 +179,18 @@ module _ (t : Trellis) (cap room j i : ℕ) (rows : List Row) (M : Between t cap
       -- what a branch brings stands later than its source, so the source of z's branch stands before z
       inside : (g : Branch) → Priced t (g .source) → Fits t g → lands t g ≡ z → (g .source ∈ take j (ranked t)) ⊎ AtMost z (g .source) → g ∈ M .taken
       inside g p u e (inl m) = pick g (M .all .full g m u)
-      inside g p u e (inr a) = absurd (before-order .irrefl z (at-most-before z (g .source) z a (subst (λ (x : Entry). T (before (g .source) x)) e (onto-later t (g .source) (g .input)))))
+      inside g p u e (inr a) =
+          let b : T (before (g .source) z) = subst (λ (x : Entry). T (before (g .source) x)) e (onto-later t (g .source) (g .input)) in
+          absurd (before-order .irrefl z (at-most-before z (g .source) z a b))
 
+  -- THE STEP, for the rows: what expanding and answering rest on
   pub between-next : Next t cap j i rows
   unfolding ways
   between-next =
-      let F = frontier-rows t cap room j rows M in
-      let p : Priced t z = next-exact t j (OpenRow rows) F z zin zmin in
+      let F = frontier-rows M in
+      let p : Priced t z = next-exact F z zin zmin in
       record {
-        grows = next-ranked t j (OpenRow rows) F z zin zmin;
+        grows = next-ranked F z zin zmin;
         known = p;
-        counted = M .table .counted i h ∙ ap (min cap) (sym (sharing-total t z (arriving t (M .taken) z) p least-branches));
+        counted = M .table .counted i h ∙ ap (min cap) (sym (sharing-total p least-branches));
       }

@@ -17,6 +17,7 @@ pub mod Step
 pub mod MetNodes
 pub mod Verdicts
 pub mod Sharing
+pub mod Entered
 pub mod Table
 pub mod Trace
 pub mod RowsMet
@@ -26,3 +27,6 @@ pub mod Expand
 pub mod Found
 pub mod Run
 pub mod Searched
+pub mod Cheaper
+pub mod Safe
+pub mod Answered

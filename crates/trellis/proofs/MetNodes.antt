@@ -2,9 +2,9 @@
 -- last j that fits the room is the greatest. Assumes nothing.
 use mathlib.Core.Path.{_≡_, refl, sym, ap, _∙_, subst}
 use mathlib.Core.Logic.{_⊎_, inl, inr}
-use mathlib.Core.List.{List, [], _∷_, _++_, map, flatMap, append-assoc, List·Memᴰ·head, List·Memᴰ·tail, Memᴰ·cast, Memᴰ·append-right}
-use mathlib.Core.Bool.{Bool, cond}
-use Prim.Native.Nat.{ℕ, zero, suc, _+_, _≤_, _<_}
+use mathlib.Core.List.{List, [], _∷_, _++_, flatMap, append-assoc}
+use mathlib.Core.Bool.{cond}
+use Prim.Native.Nat.{ℕ, zero, suc, _≤_, _<_}
 use native.Mathlib.Decide.{decLe}
 use native.Mathlib.Omega.{arith}
 use lib.Dec.{T, leb}
@@ -12,17 +12,17 @@ use borrow.Author.Tests.{le-leb, lt-leb}
 use lib.ListN.{length, take, drop, length-take, length-append, take-append-drop}
 use lib.Seq.{take-suc}
 use Rattle.lists.specs.Lists.{_∈_, keep, distinct, below}
-use Rattle.lists.proofs.Membership.{Every, Within, eq-or-lt, take-out, take-more, keep-in, map-in, map-out, Mapped, flatMap-in, flatMap-out, FlatMapped, below-in, below-out}
+use Rattle.lists.proofs.Membership.{here, further, member-cast, append-right, Every, Within, eq-or-lt, take-out, take-more, keep-in, map-in, map-out, flatMap-in, flatMap-out, FlatMapped, below-in, below-out}
 use Rattle.lists.proofs.Unique.{Unique, length-within, same-length}
 use Rattle.lists.proofs.Distinct.{distinct-in, distinct-out, distinct-unique}
 use Rattle.lists.proofs.Sorted.{Sorted, take-sorted, take-or-after, sorted-unique, keep-before}
-use Rattle.trellis.specs.Trellis.{Trellis, Path, Node, node, same, origin, terminal, allowed, successors, cost}
+use Rattle.trellis.specs.Trellis.{Trellis, Node, same, origin, terminal, allowed, successors, cost}
 use Rattle.trellis.specs.Verdict.{Entry, priced, before, ranked, steps, met, lastFit}
 use Rattle.trellis.specs.Sheet.{onto}
-use Rattle.trellis.proofs.Paths.{Ends, same-equality}
+use Rattle.trellis.proofs.Paths.{Reached, same-equality}
 use Rattle.trellis.proofs.Cost.{cost-is, cost-computed}
 use Rattle.trellis.proofs.Order.{before-order, entry-path}
-use Rattle.trellis.proofs.Ranked.{ranked-in, ranked-out, ranked-sorted, ranked-unique}
+use Rattle.trellis.proofs.Ranked.{ranked-in, ranked-out, ranked-sorted}
 use Rattle.trellis.proofs.Places.{place-out}
 use Rattle.trellis.proofs.Step.{Closed}
 
@@ -40,16 +40,17 @@ pub record Met (t : Trellis) (j : ℕ) (x : Node) : Type 0 where
   pub fits : input < allowed t (source .node .level)
   pub equal : x ≡ onto t source input .node
 
+-- to go from what was met to the list, and back
 pub met-in : (t : Trellis) (j : ℕ) (x : Node) → Met t j x → x ∈ metNodes t j
 unfolding successors
 met-in t j x m =
-    List·Memᴰ·tail (flatMap-in (λ (e : Entry). successors t (e .node)) (m .member)
-    (Memᴰ·cast (m .equal) (map-in (λ (b : ℕ). onto t (m .source) b .node) (below-in (allowed t (m .source .node .level)) (m .fits)))))
+    further (flatMap-in (λ (e : Entry). successors t (e .node)) (m .member)
+    (member-cast (m .equal) (map-in (λ (b : ℕ). onto t (m .source) b .node) (below-in (allowed t (m .source .node .level)) (m .fits)))))
 
 pub met-out : (t : Trellis) (j : ℕ) (x : Node) → x ∈ metNodes t j → (x ≡ origin) ⊎ Met t j x
 unfolding successors
-met-out t j x (List·Memᴰ·head e) = inl e
-met-out t j x (List·Memᴰ·tail m) = inr (go (flatMap-out (λ (e : Entry). successors t (e .node)) (take j (ranked t)) m))
+met-out t j x (here e) = inl e
+met-out t j x (further m) = inr (go (flatMap-out (λ (e : Entry). successors t (e .node)) (take j (ranked t)) m))
   where
     go : FlatMapped (λ (e : Entry). successors t (e .node)) (take j (ranked t)) x → Met t j x
     go f =
@@ -71,13 +72,13 @@ module _ (t : Trellis) (j : ℕ) (l : List Node) (u : Unique l) (w : Within l (m
 
 -- D does not fall
 pub met-mono : (t : Trellis) (j k : ℕ) → j ≤ k → met t j ≤ met t k
-met-mono t j k h = rw (met-is) (length-some-met t k (distinct same (metNodes t j)) (distinct-unique same same-equality (metNodes t j)) (λ x m. go x (met-out t j x (distinct-out same same-equality (metNodes t j) x m))))
+met-mono t j k h =
+    unfold met in
+    length-some-met t k (distinct same (metNodes t j)) (distinct-unique same same-equality (metNodes t j))
+    (λ x m. go x (met-out t j x (distinct-out same same-equality (metNodes t j) x m)))
   where
-    met-is : met t j ≡ length (distinct same (metNodes t j))
-    met-is = unfold met in refl
-
     go : (x : Node) → (x ≡ origin) ⊎ Met t j x → x ∈ metNodes t k
-    go x (inl e) = List·Memᴰ·head e
+    go x (inl e) = here e
     go x (inr m) = met-in t k x (record { source = m .source; input = m .input; member = take-more j k (ranked t) h (m .source) (m .member); fits = m .fits; equal = m .equal })
 
 -- the origin is met at once
@@ -85,7 +86,7 @@ pub met-some : (t : Trellis) (j : ℕ) → 0 < met t j
 met-some t j = length-some-met t j (origin ∷ []) ((λ m. elim m [ ]), tt) (λ x m. go x m)
   where
     go : (x : Node) → x ∈ (origin ∷ []) → x ∈ metNodes t j
-    go x (List·Memᴰ·head e) = List·Memᴰ·head e
+    go x (here e) = here e
 
 -- ---- E
 
@@ -110,13 +111,13 @@ steps-at t j z e n =
 
     own : z ≡ priced t (terminal t)
     own =
-        let c = ranked-out t (subst (λ (l : List Entry). z ∈ l) (sym whole) (Memᴰ·append-right (take j (ranked t)) (List·Memᴰ·head refl))) in
+        let c = ranked-out t (subst (λ (l : List Entry). z ∈ l) (sym whole) (append-right (take j (ranked t)) (here refl))) in
         entry-path (cost-computed c ∙ ap (cost t) n) n
 
 -- the terminal is not among the first j: E is at least j
-pub steps-past : (t : Trellis) (j : ℕ) {p : Path} → Ends t (terminal t) p → j ≤ length (ranked t) → (Closed t j (terminal t) → ⊥) → j ≤ steps t
+pub steps-past : (t : Trellis) (j : ℕ) → Reached t (terminal t) → j ≤ length (ranked t) → (Closed t j (terminal t) → ⊥) → j ≤ steps t
 unfolding steps
-steps-past t j h k away = go (take-or-after before j (ranked t) (ranked-sorted t) (priced t (terminal t)) (ranked-in (cost-is h)))
+steps-past t j h k away = go (take-or-after before j (ranked t) (ranked-sorted t) (priced t (terminal t)) (ranked-in (cost-is (h .there))))
   where
     go : Closed t j (terminal t) ⊎ Every (λ x. T (before x (priced t (terminal t)))) (take j (ranked t)) → j ≤ length (keep (λ x. before x (priced t (terminal t))) (ranked t))
     go (inl m) = absurd (away m)
@@ -127,20 +128,21 @@ steps-past t j h k away = go (take-or-after before j (ranked t) (ranked-sorted t
         omega (arith, length-take j (ranked t))
 
 -- after E steps the terminal comes
-pub terminal-comes : (t : Trellis) {p : Path} → Ends t (terminal t) p → take (suc (steps t)) (ranked t) ≡ take (steps t) (ranked t) ++ (priced t (terminal t) ∷ [])
+pub terminal-comes : (t : Trellis) → Reached t (terminal t) → take (suc (steps t)) (ranked t) ≡ take (steps t) (ranked t) ++ (priced t (terminal t) ∷ [])
 terminal-comes t h =
     let z : Entry = priced t (terminal t) in
-    let r = place-out z (ranked t) {a = z} (ranked-in (cost-is h)) in
+    let r = place-out z (ranked t) {a = z} (ranked-in (cost-is (h .there))) in
     let grows : take (suc (r .index)) (ranked t) ≡ take (r .index) (ranked t) ++ (z ∷ []) =
     take-suc (ranked t) (r .index) z (r .within) ∙ ap (λ (u : Entry). take (r .index) (ranked t) ++ (u ∷ [])) (r .equal) in
     subst (λ (n : ℕ). take (suc n) (ranked t) ≡ take n (ranked t) ++ (z ∷ [])) (sym (steps-at t (r .index) z grows refl)) grows
 
 -- E is finite: fewer steps than ranked nodes
-pub steps-few : (t : Trellis) {p : Path} → Ends t (terminal t) p → steps t < length (ranked t)
+pub steps-few : (t : Trellis) → Reached t (terminal t) → steps t < length (ranked t)
 steps-few t h = next-inside t (steps t) (priced t (terminal t)) (terminal-comes t h)
 
 -- ---- the last j that fits the room
 
+-- it is found where D passes the room
 pub lastFit-is : (t : Trellis) (room j k : ℕ) → j ≤ k → met t j ≤ room → room < met t (suc j) → lastFit t room k ≡ j
 unfolding lastFit
 lastFit-is t room j zero h p q = omega arith
@@ -150,6 +152,7 @@ lastFit-is t room j (suc k) h p q = go (eq-or-lt j (suc k) (omega arith)) (λ l.
     go (inl e) ih = rw (le-leb (met t (suc k)) room (rw (sym e) p)) (sym e)
     go (inr l) ih = rw (lt-leb (met t (suc k)) room (omega (arith, met-mono t (suc j) (suc k) (omega arith)))) (ih (omega arith))
 
+-- and is 0 where nothing fits
 pub lastFit-none : (t : Trellis) (room k : ℕ) → room < met t 0 → lastFit t room k ≡ 0
 unfolding lastFit
 lastFit-none t room zero h = refl

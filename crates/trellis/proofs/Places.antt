@@ -1,12 +1,12 @@
 -- Members of a list by their places: where a member stands, and that a list whose places differ has no repeats. Assumes nothing.
-use mathlib.Core.Path.{_≡_, refl, sym, _∙_}
-use mathlib.Core.List.{List, [], _∷_, map, List·Memᴰ·head, List·Memᴰ·tail}
+use mathlib.Core.Path.{_≡_, refl, sym}
+use mathlib.Core.List.{List, [], _∷_, map}
 use Prim.Native.Nat.{ℕ, zero, suc, _<_}
 use native.Mathlib.Nat.{suc-inj}
 use native.Mathlib.Omega.{arith}
 use lib.ListN.{length, getD}
 use Rattle.lists.specs.Lists.{_∈_}
-use Rattle.lists.proofs.Membership.{map-out, Mapped}
+use Rattle.lists.proofs.Membership.{here, further, map-out, Mapped}
 use Rattle.lists.proofs.Unique.{Unique}
 
 module _ {A : Type 0} (d : A) where
@@ -16,14 +16,16 @@ module _ {A : Type 0} (d : A) where
     pub within : index < length l
     pub equal : getD l index d ≡ a
 
+  -- to go from a member to its place
   pub place-out : (l : List A) {a : A} → a ∈ l → Place l a
-  place-out (x ∷ l) (List·Memᴰ·head e) = record { index = 0; within = omega arith; equal = sym e }
-  place-out (x ∷ l) (List·Memᴰ·tail m) = let r = place-out l m in record { index = suc (r .index); within = omega (arith, r .within); equal = r .equal }
+  place-out (x ∷ l) (here e) = record { index = 0; within = omega arith; equal = sym e }
+  place-out (x ∷ l) (further m) = let r = place-out l m in record { index = suc (r .index); within = omega (arith, r .within); equal = r .equal }
 
+  -- and back
   pub place-in : (l : List A) (i : ℕ) → i < length l → getD l i d ∈ l
   place-in [] i h = absurd (omega arith)
-  place-in (x ∷ l) zero h = List·Memᴰ·head refl
-  place-in (x ∷ l) (suc i) h = List·Memᴰ·tail (place-in l i (omega arith))
+  place-in (x ∷ l) zero h = here refl
+  place-in (x ∷ l) (suc i) h = further (place-in l i (omega arith))
 
   -- to show that no image comes twice
   pub places-unique : {B : Type 0} (f : A → B) (l : List A) → ((i k : ℕ) → i < length l → k < length l → f (getD l i d) ≡ f (getD l k d) → i ≡ k) → Unique (map f l)

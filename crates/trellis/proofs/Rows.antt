@@ -1,23 +1,20 @@
 -- The store's functions on rows: what a change leaves alone, what findRow and firstOpen find, and that only they find it.
 -- A program that keeps rows in another way shows RowOf and First of what it found, and has the pure function's answer.
 -- Assumes nothing.
-use mathlib.Core.Path.{_≡_, refl, sym, ap, _∙_, subst}
+use mathlib.Core.Path.{_≡_, refl, sym, _∙_, subst}
 use mathlib.Core.Logic.{_⊎_, inl, inr}
 use mathlib.Core.List.{List, [], _∷_, _++_}
 use mathlib.Core.Bool.{Bool, true, false, cond, _&&_}
-use Prim.Native.Nat.{ℕ, zero, suc, _+_, _≤_, _<_}
+use Prim.Native.Nat.{ℕ, zero, suc, _≤_, _<_}
 use native.Mathlib.Decide.{decLt}
 use native.Mathlib.Omega.{arith}
 use lib.Dec.{T, ltb, ltb→lt, lt→ltb}
 use lib.ListN.{length, set, length-set, length-append, List·getD-append}
 use lib.Seq.{getD-set-same, getD-set-other, getD-append-seam}
 use Rattle.lists.proofs.Tests.{test, and-in, and-out, true-out, false-out}
-use Rattle.lists.proofs.Membership.{eq-or-lt}
-use Rattle.lists.proofs.Distinct.{Equality}
-use Rattle.lists.proofs.Sorted.{Order}
 use Rattle.trellis.specs.Trellis.{Node, same}
 use Rattle.trellis.specs.Verdict.{Entry, before}
-use Rattle.trellis.specs.Search.{Row, noRow, rowAt, findRow, firstOpen}
+use Rattle.trellis.specs.Search.{Row, noRow, rowAt, entryAt, nodeAt, findRow, firstOpen}
 use Rattle.trellis.proofs.Paths.{same-equality}
 use Rattle.trellis.proofs.Order.{before-order}
 
@@ -32,7 +29,8 @@ pub record Changed (rows after : List Row) (k : ℕ) (r : Row) : Type 0 where
   pub within : k < length after
   pub here : rowAt after k ≡ r
   pub longer : length rows ≤ length after
-  pub others : (i : ℕ) → i < length after → (i ≡ k → ⊥) → (i < length rows) × (rowAt after i ≡ rowAt rows i)
+  pub older : (i : ℕ) → i < length after → (i ≡ k → ⊥) → i < length rows
+  pub others : (i : ℕ) → i < length after → (i ≡ k → ⊥) → rowAt after i ≡ rowAt rows i
 
 -- a row replaced: lowered, joined and closed
 pub set-changed : (rows : List Row) (k : ℕ) (r : Row) → k < length rows → Changed rows (set rows k r) k r
@@ -40,7 +38,8 @@ set-changed rows k r h = record {
   within = rw (length-set rows k r) h;
   here = getD-set-same rows k r noRow h;
   longer = omega (arith, length-set rows k r);
-  others = (λ i u d. (omega (arith, length-set rows k r), getD-set-other rows k i r noRow d));
+  older = (λ i u d. omega (arith, length-set rows k r));
+  others = (λ i u d. getD-set-other rows k i r noRow d);
 }
 
 -- a row at the end
@@ -49,7 +48,8 @@ added-changed rows r = record {
   within = omega (arith, length-append rows (r ∷ []));
   here = getD-append-seam rows r [] noRow;
   longer = omega (arith, length-append rows (r ∷ []));
-  others = (λ i u d. let h : i < length rows = omega (arith, length-append rows (r ∷ [])) in (h, List·getD-append rows (r ∷ []) noRow i h));
+  older = (λ i u d. omega (arith, length-append rows (r ∷ [])));
+  others = (λ i u d. List·getD-append rows (r ∷ []) noRow i (omega (arith, length-append rows (r ∷ []))));
 }
 
 -- ---- the row of a node
@@ -57,9 +57,10 @@ added-changed rows r = record {
 -- k is the first row of a node, or the number of rows if it has none
 pub record RowOf (x : Node) (rows : List Row) (k : ℕ) : Type 0 where
   pub within : k ≤ length rows
-  pub here : k < length rows → rowAt rows k .entry .node ≡ x
-  pub none : (i : ℕ) → i < k → rowAt rows i .entry .node ≡ x → ⊥
+  pub here : k < length rows → nodeAt rows k ≡ x
+  pub none : (i : ℕ) → i < k → nodeAt rows i ≡ x → ⊥
 
+-- findRow finds it
 pub findRow-is : (x : Node) (rows : List Row) → RowOf x rows (findRow x rows)
 unfolding findRow
 findRow-is x [] = record { within = omega arith; here = (λ h. absurd (omega arith)); none = (λ i h. absurd (omega arith)) }
@@ -68,7 +69,7 @@ findRow-is x (r ∷ rows) = go (test (same (r .entry .node) x)) (findRow-is x ro
     later : (T (same (r .entry .node) x) → ⊥) → RowOf x rows (findRow x rows) → RowOf x (r ∷ rows) (suc (findRow x rows))
     later d ih = record { within = omega arith; here = (λ h. ih .here (omega arith)); none = none′ }
       where
-        none′ : (i : ℕ) → i < suc (findRow x rows) → rowAt (r ∷ rows) i .entry .node ≡ x → ⊥
+        none′ : (i : ℕ) → i < suc (findRow x rows) → nodeAt (r ∷ rows) i ≡ x → ⊥
         none′ zero h e = d (subst (λ (y : Node). T (same (r .entry .node) y)) e (same-equality .complete (r .entry .node)))
         none′ (suc i) h e = ih .none i (omega arith) e
 
@@ -93,9 +94,10 @@ pub record First (rows : List Row) (k : ℕ) : Type 0 where
   pub within : k ≤ length rows
   pub live : k < length rows → rowAt rows k .closed ≡ false
   pub some : (i : ℕ) → i < length rows → rowAt rows i .closed ≡ false → k < length rows
-  pub least : (i : ℕ) → i < length rows → rowAt rows i .closed ≡ false → T (before (rowAt rows i .entry) (rowAt rows k .entry)) → ⊥
-  pub early : (i : ℕ) → i < k → rowAt rows i .closed ≡ false → T (before (rowAt rows k .entry) (rowAt rows i .entry))
+  pub least : (i : ℕ) → i < length rows → rowAt rows i .closed ≡ false → T (before (entryAt rows i) (entryAt rows k)) → ⊥
+  pub early : (i : ℕ) → i < k → rowAt rows i .closed ≡ false → T (before (entryAt rows k) (entryAt rows i))
 
+-- firstOpen finds it
 pub firstOpen-is : (rows : List Row) → First rows (firstOpen rows)
 unfolding firstOpen
 firstOpen-is [] = record {
@@ -105,13 +107,13 @@ firstOpen-is [] = record {
   least = (λ i h. absurd (omega arith));
   early = (λ i h. absurd (omega arith));
 }
-firstOpen-is (r ∷ rows) = go (r .closed) refl (test (ltb (firstOpen rows) (length rows) && before (rowAt rows (firstOpen rows) .entry) (r .entry))) (firstOpen-is rows)
+firstOpen-is (r ∷ rows) = go (r .closed) refl (test (ltb (firstOpen rows) (length rows) && before (entryAt rows (firstOpen rows)) (r .entry))) (firstOpen-is rows)
   where
     k : ℕ
     k = firstOpen rows
 
     z : Entry
-    z = rowAt rows (firstOpen rows) .entry
+    z = entryAt rows (firstOpen rows)
 
     -- the first of the rest stands before r, or r is closed
     skip : (r .closed ≡ false → (k < length rows) × T (before z (r .entry))) → First rows k → First (r ∷ rows) (suc k)
@@ -121,11 +123,11 @@ firstOpen-is (r ∷ rows) = go (r .closed) refl (test (ltb (firstOpen rows) (len
         some′ zero h e = omega (arith, ahead e .0)
         some′ (suc i) h e = omega (arith, f .some i (omega arith) e)
 
-        least′ : (i : ℕ) → i < suc (length rows) → rowAt (r ∷ rows) i .closed ≡ false → T (before (rowAt (r ∷ rows) i .entry) z) → ⊥
+        least′ : (i : ℕ) → i < suc (length rows) → rowAt (r ∷ rows) i .closed ≡ false → T (before (entryAt (r ∷ rows) i) z) → ⊥
         least′ zero h e b = before-order .irrefl z (before-order .trans z (r .entry) z (ahead e .1) b)
         least′ (suc i) h e b = f .least i (omega arith) e b
 
-        early′ : (i : ℕ) → i < suc k → rowAt (r ∷ rows) i .closed ≡ false → T (before z (rowAt (r ∷ rows) i .entry))
+        early′ : (i : ℕ) → i < suc k → rowAt (r ∷ rows) i .closed ≡ false → T (before z (entryAt (r ∷ rows) i))
         early′ zero h e = ahead e .1
         early′ (suc i) h e = f .early i (omega arith) e
 
@@ -133,12 +135,14 @@ firstOpen-is (r ∷ rows) = go (r .closed) refl (test (ltb (firstOpen rows) (len
     stay : r .closed ≡ false → (T (ltb k (length rows) && before z (r .entry)) → ⊥) → First rows k → First (r ∷ rows) 0
     stay e d f = record { within = omega arith; live = (λ h. e); some = (λ i h c. omega arith); least = least′; early = (λ i h. absurd (omega arith)) }
       where
-        least′ : (i : ℕ) → i < suc (length rows) → rowAt (r ∷ rows) i .closed ≡ false → T (before (rowAt (r ∷ rows) i .entry) (r .entry)) → ⊥
+        least′ : (i : ℕ) → i < suc (length rows) → rowAt (r ∷ rows) i .closed ≡ false → T (before (entryAt (r ∷ rows) i) (r .entry)) → ⊥
         least′ zero h c b = before-order .irrefl (r .entry) b
-        least′ (suc i) h c b = d (and-in (ltb k (length rows)) (before z (r .entry)) (lt→ltb k (length rows) (f .some i (omega arith) c)) (pick (before-order .total z (rowAt rows i .entry))))
+        least′ (suc i) h c b =
+            let l : T (ltb k (length rows)) = lt→ltb k (length rows) (f .some i (omega arith) c) in
+            d (and-in (ltb k (length rows)) (before z (r .entry)) l (pick (before-order .total z (entryAt rows i))))
           where
-            pick : T (before z (rowAt rows i .entry)) ⊎ ((z ≡ rowAt rows i .entry) ⊎ T (before (rowAt rows i .entry) z)) → T (before z (r .entry))
-            pick (inl q) = before-order .trans z (rowAt rows i .entry) (r .entry) q b
+            pick : T (before z (entryAt rows i)) ⊎ ((z ≡ entryAt rows i) ⊎ T (before (entryAt rows i) z)) → T (before z (r .entry))
+            pick (inl q) = before-order .trans z (entryAt rows i) (r .entry) q b
             pick (inr (inl q)) = rw q b
             pick (inr (inr q)) = absurd (f .least i (omega arith) c q)
 

@@ -1,42 +1,50 @@
 -- The rows are nodes that the closed nodes lead to, none twice: no more than D(j), and just D(j) once all branches are taken.
 -- Assumes nothing.
-use mathlib.Core.Path.{_≡_, refl, sym, ap, _∙_}
+use mathlib.Core.Path.{_≡_, sym, ap, _∙_}
 use mathlib.Core.Logic.{_⊎_, inl, inr}
-use mathlib.Core.List.{List, [], _∷_, map, List·Memᴰ·head, List·Memᴰ·tail, Memᴰ·cast}
+use mathlib.Core.List.{List, _∷_, map}
 use Prim.Native.Nat.{ℕ, zero, suc, _≤_, _<_}
 use native.Mathlib.Omega.{arith}
-use lib.ListN.{length, take, length-map}
+use lib.ListN.{length, length-map}
 use Rattle.lists.specs.Lists.{_∈_}
-use Rattle.lists.proofs.Membership.{Within, map-in, map-out, Mapped}
+use Rattle.lists.proofs.Membership.{here, further, member-cast, Within, map-in, map-out, Mapped}
 use Rattle.lists.proofs.Unique.{Unique}
 use Rattle.trellis.specs.Trellis.{Trellis, Node, origin}
-use Rattle.trellis.specs.Verdict.{Entry, ranked, met}
-use Rattle.trellis.specs.Search.{Row, noRow, rowAt}
+use Rattle.trellis.specs.Verdict.{Entry, met}
+use Rattle.trellis.specs.Search.{Row, noRow, rowAt, entryAt}
 use Rattle.trellis.proofs.Places.{place-out, place-in, places-unique}
 use Rattle.trellis.proofs.MetNodes.{metNodes, Met, met-in, met-out, length-some-met, length-all-met}
 use Rattle.trellis.proofs.Sharing.{Branch, branch, lands}
 use Rattle.trellis.proofs.Table.{Link, Table, Covered, Taken}
 
+-- the node of a row
 abbrev pub nodeOf : Row → Node
 nodeOf r = r .entry .node
 
-module _ (t : Trellis) (cap j : ℕ) (taken : List Branch) (rows : List Row) (B : Table t cap j taken rows) where
+module _ {t : Trellis} {cap j : ℕ} {taken : List Branch} {rows : List Row} (B : Table t cap j taken rows) where
+  -- none twice, so they can be counted
   pub nodes-unique : Unique (map nodeOf rows)
   nodes-unique = places-unique noRow nodeOf rows (B .once)
 
   -- each of them is met
   row-met : (i : ℕ) → i < length rows → nodeOf (rowAt rows i) ∈ metNodes t j
-  row-met zero h = List·Memᴰ·head (ap (λ (e : Entry). e .node) (B .first))
+  row-met zero h = here (ap (λ (e : Entry). e .node) (B .first))
   row-met (suc i) h =
       let k : Link t rows (rowAt rows (suc i)) = B .linked (suc i) (omega arith) h in
       met-in t j (nodeOf (rowAt rows (suc i)))
-      (record { source = rowAt rows (rowAt rows (suc i) .parent) .entry; input = rowAt rows (suc i) .input; member = B .shut (rowAt rows (suc i) .parent) (k .within) (k .shut); fits = k .fits; equal = ap (λ (e : Entry). e .node) (k .comes) })
+      (record {
+        source = entryAt rows (rowAt rows (suc i) .parent);
+        input = rowAt rows (suc i) .input;
+        member = B .shut (rowAt rows (suc i) .parent) (k .within) (k .shut);
+        fits = k .fits;
+        equal = ap (λ (e : Entry). e .node) (k .comes);
+      })
 
   nodes-met : Within (map nodeOf rows) (metNodes t j)
   nodes-met x m = go (map-out nodeOf rows m)
     where
       go : Mapped nodeOf rows x → x ∈ metNodes t j
-      go r = let p = place-out noRow rows (r .member) in Memᴰ·cast (r .equal ∙ ap nodeOf (sym (p .equal))) (row-met (p .index) (p .within))
+      go r = let p = place-out noRow rows (r .member) in member-cast (r .equal ∙ ap nodeOf (sym (p .equal))) (row-met (p .index) (p .within))
 
   -- a node met that has no row: D(j) is more than the rows
   pub rows-short : (x : Node) → x ∈ metNodes t j → ((i : ℕ) → i < length rows → nodeOf (rowAt rows i) ≡ x → ⊥) → length rows < met t j
@@ -48,15 +56,15 @@ module _ (t : Trellis) (cap j : ℕ) (taken : List Branch) (rows : List Row) (B 
       new r = let p = place-out noRow rows (r .member) in none (p .index) (p .within) (ap nodeOf (p .equal) ∙ sym (r .equal))
 
       met′ : Within (x ∷ map nodeOf rows) (metNodes t j)
-      met′ y (List·Memᴰ·head e) = Memᴰ·cast e m
-      met′ y (List·Memᴰ·tail k) = nodes-met y k
+      met′ y (here e) = member-cast e m
+      met′ y (further k) = nodes-met y k
 
   -- all branches taken: the rows are D(j)
   pub rows-met : Taken t j (λ f. ⊥) taken → length rows ≡ met t j
   rows-met E = sym (length-map rows nodeOf) ∙ length-all-met t j (map nodeOf rows) nodes-unique nodes-met (λ x m. go x (met-out t j x m))
     where
       at : (i : ℕ) (x : Node) → i < length rows → nodeOf (rowAt rows i) ≡ x → x ∈ map nodeOf rows
-      at i x h e = Memᴰ·cast (sym e) (map-in nodeOf (place-in noRow rows i h))
+      at i x h e = member-cast (sym e) (map-in nodeOf (place-in noRow rows i h))
 
       pick : (f : Branch) → (f ∈ taken) ⊎ ⊥ → Covered rows (lands t f)
       pick f (inl m) = B .reach f m

@@ -14,7 +14,7 @@ use Rattle.lists.proofs.Membership.{singleton-out, append-out}
 use Rattle.trellis.specs.Trellis.{Trellis, Node, same, terminal}
 use Rattle.trellis.specs.Verdict.{Entry, priced, ranked, steps, met}
 use Rattle.trellis.specs.Lawful.{Lawful}
-use Rattle.trellis.specs.Search.{Row, rowAt, started, firstOpen, Tried, expand, full, spent, Ended, arrived, run, searched}
+use Rattle.trellis.specs.Search.{Row, entryAt, nodeAt, started, firstOpen, Tried, expand, full, spent, Ended, arrived, run, searched}
 use Rattle.trellis.proofs.Paths.{same-equality}
 use Rattle.trellis.proofs.Messages.{terminal-reached}
 use Rattle.trellis.proofs.Step.{Closed}
@@ -28,27 +28,31 @@ use Rattle.trellis.proofs.Expand.{expand-going}
 
 -- the terminal is first
 abbrev pub Arrived : Trellis → List Row → Type 0
-Arrived t rows = T (same (rowAt rows (firstOpen rows) .entry .node) (terminal t))
+Arrived t rows = T (same (nodeAt rows (firstOpen rows)) (terminal t))
 
--- how the run goes on, where it is known
+-- what the run's step makes of the rows
+abbrev pub after : (t : Trellis) (cap room : ℕ) (rows : List Row) → Tried
+after t cap room rows = expand t cap room (firstOpen rows) rows
+
 module _ (t : Trellis) (cap room j : ℕ) (rows : List Row) where
+  -- to follow the run by what was found first
   pub run-found : (left : ℕ) → Arrived t rows → run t cap room left j rows ≡ arrived rows (firstOpen rows) j
   unfolding run
-  run-found zero h = rw (run, true-out (same (rowAt rows (firstOpen rows) .entry .node) (terminal t)) h)
-  run-found (suc left) h = rw (run, true-out (same (rowAt rows (firstOpen rows) .entry .node) (terminal t)) h)
+  run-found zero h = rw (run, true-out (same (nodeAt rows (firstOpen rows)) (terminal t)) h)
+  run-found (suc left) h = rw (run, true-out (same (nodeAt rows (firstOpen rows)) (terminal t)) h)
 
   module _ (off : Arrived t rows → ⊥) where
     pub run-spent : run t cap room 0 j rows ≡ record { rows = rows; outcome = spent j }
     unfolding run
-    run-spent = rw (run, false-out (same (rowAt rows (firstOpen rows) .entry .node) (terminal t)) off)
+    run-spent = rw (run, false-out (same (nodeAt rows (firstOpen rows)) (terminal t)) off)
 
-    pub run-full : (left : ℕ) → expand t cap room (firstOpen rows) rows .full ≡ true → run t cap room (suc left) j rows ≡ record { rows = expand t cap room (firstOpen rows) rows .rows; outcome = full j }
+    pub run-full : (left : ℕ) → after t cap room rows .full ≡ true → run t cap room (suc left) j rows ≡ record { rows = after t cap room rows .rows; outcome = full j }
     unfolding run
-    run-full left e = rw (run, false-out (same (rowAt rows (firstOpen rows) .entry .node) (terminal t)) off, e)
+    run-full left e = rw (run, false-out (same (nodeAt rows (firstOpen rows)) (terminal t)) off, e)
 
-    pub run-on : (left : ℕ) → expand t cap room (firstOpen rows) rows .full ≡ false → run t cap room (suc left) j rows ≡ run t cap room left (suc j) (expand t cap room (firstOpen rows) rows .rows)
+    pub run-on : (left : ℕ) → after t cap room rows .full ≡ false → run t cap room (suc left) j rows ≡ run t cap room left (suc j) (after t cap room rows .rows)
     unfolding run
-    run-on left e = rw (run, false-out (same (rowAt rows (firstOpen rows) .entry .node) (terminal t)) off, e)
+    run-on left e = rw (run, false-out (same (nodeAt rows (firstOpen rows)) (terminal t)) off, e)
 
 -- ---- how it ends
 
@@ -56,71 +60,80 @@ pub data Ending (t : Trellis) (cap room allowance : ℕ) (e : Ended) : Type 0 wh
   -- not even the origin has room
   no-room : room ≡ 0 → e ≡ record { rows = []; outcome = full 0 } → Ending t cap room allowance e
   -- the terminal is first after j steps
-  at-terminal : (j i : ℕ) (rows : List Row) → Between t cap room j rows → First rows i → i < length rows → rowAt rows i .entry .node ≡ terminal t → j ≤ allowance
+  at-terminal : (j i : ℕ) (rows : List Row) → Between t cap room j rows → First rows i → i < length rows → nodeAt rows i ≡ terminal t → j ≤ allowance
       → e ≡ arrived rows i j → Ending t cap room allowance e
   -- j steps have room, and the next does not
-  out-of-room : (j : ℕ) (rows : List Row) → j < steps t → j < allowance → met t j ≤ room → room < met t (suc j) → e ≡ record { rows = rows; outcome = full j } → Ending t cap room allowance e
+  out-of-room : (j : ℕ) (rows : List Row) → j < steps t → j < allowance → met t j ≤ room → room < met t (suc j)
+      → e ≡ record { rows = rows; outcome = full j } → Ending t cap room allowance e
   -- all allowed steps have room, and the terminal is not first
-  out-of-steps : (rows : List Row) → allowance < steps t → met t allowance ≤ room → e ≡ record { rows = rows; outcome = spent allowance } → Ending t cap room allowance e
+  out-of-steps : (rows : List Row) → allowance < steps t → met t allowance ≤ room
+      → e ≡ record { rows = rows; outcome = spent allowance } → Ending t cap room allowance e
 
-module _ (t : Trellis) (law : Lawful t) (cap room : ℕ) where
-  module _ (j : ℕ) (rows : List Row) (M : Between t cap room j rows) where
-    inside : firstOpen rows < length rows
-    inside = between-open t cap room j rows M (terminal-reached law)
+module _ {t : Trellis} (law : Lawful t) {cap room : ℕ} where
+  module _ {j : ℕ} {rows : List Row} (M : Between t cap room j rows) where
+    -- there is an open row
+    pub inside : firstOpen rows < length rows
+    inside = between-open M (terminal-reached law)
 
-    fits : met t j ≤ room
-    fits = rw (between-met t cap room j rows M) at (M .held)
+    -- the steps so far had room
+    pub fits : met t j ≤ room
+    fits = rw (between-met M) at (M .held)
 
-    apart : (Arrived t rows → ⊥) → rowAt rows (firstOpen rows) .entry .node ≡ terminal t → ⊥
-    apart off e = off (subst (λ (x : Node). T (same (rowAt rows (firstOpen rows) .entry .node) x)) e (same-equality .complete (rowAt rows (firstOpen rows) .entry .node)))
+    module _ (off : Arrived t rows → ⊥) where
+      apart : nodeAt rows (firstOpen rows) ≡ terminal t → ⊥
+      apart e = off (subst (λ (x : Node). T (same (nodeAt rows (firstOpen rows)) x)) e (same-equality .complete (nodeAt rows (firstOpen rows))))
 
-    -- the terminal is not first: there is a step more
-    further : (Arrived t rows → ⊥) → j < steps t
-    further off = steps-past t (suc j) (terminal-reached law .there) (next-inside t j (rowAt rows (firstOpen rows) .entry) (N .grows)) (λ m. go (append-out (take j (ranked t)) (rw (N .grows) at m)))
-      where
-        N : Next t cap j (firstOpen rows) rows
-        N = between-next t cap room j (firstOpen rows) rows M (firstOpen-is rows) inside
+      -- the terminal is not first: there is a step more
+      pub further : j < steps t
+      further =
+          steps-past t (suc j) (terminal-reached law) (next-inside t j (entryAt rows (firstOpen rows)) (N .grows))
+          (λ m. go (append-out (take j (ranked t)) (rw (N .grows) at m)))
+        where
+          N : Next t cap j (firstOpen rows) rows
+          N = between-next M (firstOpen-is rows) inside
 
-        go : Closed t j (terminal t) ⊎ (priced t (terminal t) ∈ (rowAt rows (firstOpen rows) .entry ∷ [])) → ⊥
-        go (inl m) = M .table .ahead m
-        go (inr m) = apart off (ap (λ (x : Entry). x .node) (sym (singleton-out m)))
+          go : Closed t j (terminal t) ⊎ (priced t (terminal t) ∈ (entryAt rows (firstOpen rows) ∷ [])) → ⊥
+          go (inl m) = M .table .ahead m
+          go (inr m) = apart (ap (λ (x : Entry). x .node) (sym (singleton-out m)))
+
+      -- the run's step
+      pub step-going : Going (Between t cap room (suc j)) (room < met t (suc j)) (after t cap room rows)
+      step-going = expand-going M (firstOpen-is rows) inside apart
 
     arriving : (left : ℕ) → Arrived t rows → Ending t cap room (j + left) (run t cap room left j rows)
     arriving left h =
-        at-terminal j (firstOpen rows) rows M (firstOpen-is rows) inside (same-equality .sound (rowAt rows (firstOpen rows) .entry .node) (terminal t) h) (omega arith)
+        at-terminal j (firstOpen rows) rows M (firstOpen-is rows) inside (same-equality .sound (nodeAt rows (firstOpen rows)) (terminal t) h) (omega arith)
         (run-found t cap room j rows left h)
 
+  -- the whole run ends in one of these ways
   pub run-ending : (left j : ℕ) (rows : List Row) → Between t cap room j rows → Ending t cap room (j + left) (run t cap room left j rows)
-  run-ending zero j rows M = go (test (same (rowAt rows (firstOpen rows) .entry .node) (terminal t)))
+  run-ending zero j rows M = go (test (same (nodeAt rows (firstOpen rows)) (terminal t)))
     where
       go : Dec (Arrived t rows) → Ending t cap room (j + 0) (run t cap room 0 j rows)
-      go (yes h) = arriving j rows M 0 h
+      go (yes h) = arriving M 0 h
       go (no off) =
           let e : j + 0 ≡ j = omega arith in
-          rw e (out-of-steps rows (further j rows M off) (fits j rows M) (run-spent t cap room j rows off))
-  run-ending (suc left) j rows M = go (test (same (rowAt rows (firstOpen rows) .entry .node) (terminal t))) (λ next m. run-ending left (suc j) next m)
+          rw e (out-of-steps rows (further M off) (fits M) (run-spent t cap room j rows off))
+  run-ending (suc left) j rows M =
+      go (test (same (nodeAt rows (firstOpen rows)) (terminal t))) (after t cap room rows .full) refl (λ m. run-ending left (suc j) (after t cap room rows .rows) m)
     where
-      after : Tried
-      after = expand t cap room (firstOpen rows) rows
+      next : Tried
+      next = after t cap room rows
 
-      on : (Arrived t rows → ⊥) → Going (Between t cap room (suc j)) (room < met t (suc j)) (expand t cap room (firstOpen rows) rows) → (shut : Bool) → expand t cap room (firstOpen rows) rows .full ≡ shut
-          → ((next : List Row) → Between t cap room (suc j) next → Ending t cap room (suc j + left) (run t cap room left (suc j) next)) → Ending t cap room (j + suc left) (run t cap room (suc left) j rows)
-      on off G true e ih = out-of-room j (expand t cap room (firstOpen rows) rows .rows) (further j rows M off) (omega arith) (fits j rows M) (G .stuck e) (run-full t cap room j rows off left e)
-      on off G false e ih =
-          let n : suc j + left ≡ j + suc left = omega arith in
-          subst (λ (a : ℕ). Ending t cap room a (run t cap room (suc left) j rows)) n
-          (rw (run-on t cap room j rows off left e) (ih (expand t cap room (firstOpen rows) rows .rows) (G .went e)))
-
-      go : Dec (Arrived t rows) → ((next : List Row) → Between t cap room (suc j) next → Ending t cap room (suc j + left) (run t cap room left (suc j) next))
+      go : Dec (Arrived t rows) → (shut : Bool) → next .full ≡ shut
+          → (Between t cap room (suc j) (next .rows) → Ending t cap room (suc j + left) (run t cap room left (suc j) (next .rows)))
           → Ending t cap room (j + suc left) (run t cap room (suc left) j rows)
-      go (yes h) ih = arriving j rows M (suc left) h
-      go (no off) ih =
-          on off (expand-going t cap room j (firstOpen rows) rows M (firstOpen-is rows) (inside j rows M) (apart j rows M off)) (expand t cap room (firstOpen rows) rows .full) refl ih
+      go (yes h) shut e ih = arriving M (suc left) h
+      go (no off) true e ih = out-of-room j (next .rows) (further M off) (omega arith) (fits M) (step-going M off .stuck e) (run-full t cap room j rows off left e)
+      go (no off) false e ih =
+          let n : suc j + left ≡ j + suc left = omega arith in
+          subst (λ (a : ℕ). Ending t cap room a (run t cap room (suc left) j rows)) n (rw (run-on t cap room j rows off left e) (ih (step-going M off .went e)))
 
-pub searched-ending : (t : Trellis) → Lawful t → (cap room allowance : ℕ) → 1 ≤ cap → Ending t cap room allowance (searched t cap room allowance)
+-- and so does the search
+pub searched-ending : {t : Trellis} → Lawful t → (cap room allowance : ℕ) → 1 ≤ cap → Ending t cap room allowance (searched t cap room allowance)
 unfolding searched
-searched-ending t law cap zero allowance c = no-room refl refl
-searched-ending t law cap (suc room) allowance c =
+searched-ending law cap zero allowance c = no-room refl refl
+searched-ending {t} law cap (suc room) allowance c =
     let e : 0 + allowance ≡ allowance = omega arith in
     subst (λ (a : ℕ). Ending t cap (suc room) a (run t cap (suc room) allowance 0 started)) e
-    (run-ending t law cap (suc room) allowance 0 started (started-between t cap (suc room) c (omega arith)))
+    (run-ending law allowance 0 started (started-between t cap (suc room) c (omega arith)))

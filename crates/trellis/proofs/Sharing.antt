@@ -3,27 +3,28 @@
 -- Assumes nothing.
 use mathlib.Core.Path.{_≡_, refl, sym, ap, ap₂, _∙_, subst}
 use mathlib.Core.Logic.{_⊎_, inl, inr}
-use mathlib.Core.List.{List, [], _∷_, _++_, map, flatMap, List·Memᴰ·head, List·Memᴰ·not-nil, List·Memᴰ·append-cases, List·Memᴰ·eq-of-singleton, Memᴰ·cast, Memᴰ·append-left, Memᴰ·append-right}
-use Prim.Native.Nat.{ℕ, zero, suc, _+_, _≤_, _<_, min}
+use mathlib.Core.List.{List, [], _∷_, _++_, map, flatMap}
+use Prim.Native.Nat.{ℕ, zero, suc, _+_, _<_, min}
 use native.Mathlib.Omega.{arith}
 use lib.Dec.{eqb}
 use lib.ListN.{length, length-append, length-map}
 use Rattle.lists.specs.Lists.{_∈_, keep}
-use Rattle.lists.proofs.Membership.{map-in, map-out, Mapped, flatMap-in, flatMap-out, FlatMapped}
+use Rattle.lists.proofs.Membership.{here, nil-out, append-out, singleton-out, append-left, append-right, map-in, map-out, flatMap-in, flatMap-out, FlatMapped}
 use Rattle.lists.proofs.Unique.{Unique, append-unique, map-unique, flatMap-unique}
-use Rattle.trellis.specs.Trellis.{Trellis, Path, Node, node, origin, allowed, ends, along, metric, endNode, pathsTo, cost}
+use Rattle.trellis.specs.Trellis.{Trellis, Path, Node, origin, allowed, ends, along, metric, endNode, pathsTo, cost}
 use Rattle.trellis.specs.Verdict.{Entry, entry}
 use Rattle.trellis.specs.Sheet.{onto}
 use Rattle.trellis.specs.Lawful.{start}
-use Rattle.trellis.proofs.Paths.{Ends, Reached, ends-here, node-path}
+use Rattle.trellis.proofs.Paths.{Ends, ends-here}
 use Rattle.trellis.proofs.Cost.{Cost, cost-is, cost-unique, cost-origin, LeastPaths, leastPaths, leastPaths-length}
-use Rattle.trellis.proofs.Recurrence.{Enters, extend, metric-extend, ends-rest, ends-last, cost-enters, reached-origin}
+use Rattle.trellis.proofs.Recurrence.{extend, metric-extend, ends-rest, ends-last, cost-enters, reached-origin}
 use Rattle.trellis.proofs.Order.{entry-path}
 use Rattle.trellis.proofs.Ranked.{Priced}
 use Rattle.trellis.proofs.Step.{mark}
 
 -- ---- sums
 
+-- the sum of a list
 unfoldable pub total : List ℕ → ℕ
 total [] = 0
 total (n ∷ ns) = n + total ns
@@ -50,6 +51,7 @@ pub record Branch : Type 0 where
   pub source : Entry
   pub input : ℕ
 
+-- a branch, short
 abbrev pub branch : Entry → ℕ → Branch
 branch e b = record { source = e; input = b }
 
@@ -96,17 +98,17 @@ length-roots (suc l) = refl
 
 roots-in : (l : ℕ) → l ≡ 0 → [] ∈ roots l
 unfolding roots
-roots-in zero e = List·Memᴰ·head refl
+roots-in zero e = here refl
 roots-in (suc l) e = absurd (omega arith)
 
 roots-out : (l : ℕ) (p : Path) → p ∈ roots l → (l ≡ 0) × (p ≡ [])
 unfolding roots
-roots-out zero p m = (refl, List·Memᴰ·eq-of-singleton m)
-roots-out (suc l) p m = absurd (List·Memᴰ·not-nil m)
+roots-out zero p m = (refl, singleton-out m)
+roots-out (suc l) p m = absurd (nil-out m)
 
 roots-unique : (l : ℕ) → Unique (roots l)
 unfolding roots
-roots-unique zero = ((λ m. List·Memᴰ·not-nil m), tt)
+roots-unique zero = ((λ m. nil-out m), tt)
 roots-unique (suc l) = tt
 
 -- the least paths of a branch's source, each gone on by the branch
@@ -137,7 +139,7 @@ gone-apart t f g p m n =
     let q : f .source .node .state ≡ g .source .node .state = cc (r .there .state, s .there .state, e) in
     λ i. branch (entry (c i) (l i) (q i)) (b i)
 
-module _ (t : Trellis) (e : Entry) (fs : List Branch) (known : Priced t e) (L : LeastBranches t e fs) where
+module _ {t : Trellis} {e : Entry} {fs : List Branch} (known : Priced t e) (L : LeastBranches t e fs) where
   -- at level 0 there is the origin alone, and it costs nothing
   root : e .node .level ≡ 0 → e ≡ entry 0 0 0
   root l =
@@ -148,13 +150,16 @@ module _ (t : Trellis) (e : Entry) (fs : List Branch) (known : Priced t e) (L : 
   unfolding ends along
   all-least = record {
     once = append-unique (roots (e .node .level)) (flatMap (gone t) fs) (roots-unique (e .node .level))
-        (flatMap-unique (gone t) fs (λ f. map-unique (λ p. f .input ∷ p) (sharing t (f .source)) (λ p q m n k. cc (k)) (leastPaths t (f .source .node) (f .source .cost) .once)) (gone-apart t) (L .once))
+        (flatMap-unique (gone t) fs gone-unique (gone-apart t) (L .once))
         (λ p m n. apart p (roots-out (e .node .level) p m .1) (flatMap-out (gone t) fs n));
-    there = (λ p m. there′ p (List·Memᴰ·append-cases (roots (e .node .level)) m));
-    paid = (λ p m. paid′ p (List·Memᴰ·append-cases (roots (e .node .level)) m));
+    there = (λ p m. there′ p (append-out (roots (e .node .level)) m));
+    paid = (λ p m. paid′ p (append-out (roots (e .node .level)) m));
     full = (λ p h c. full′ p h c);
   }
     where
+      gone-unique : (f : Branch) → Unique (gone t f)
+      gone-unique f = map-unique (λ p. f .input ∷ p) (sharing t (f .source)) (λ p q m n e. cc (e)) (leastPaths t (f .source .node) (f .source .cost) .once)
+
       apart : (p : Path) → p ≡ [] → FlatMapped (gone t) fs p → ⊥
       apart p q r =
           let n : length p ≡ 0 = ap length q in
@@ -180,13 +185,13 @@ module _ (t : Trellis) (e : Entry) (fs : List Branch) (known : Priced t e) (L : 
           ap (metric t) (g .equal) ∙ metric-extend (r .source .input) (g .there) ∙ omega (arith, g .paid)
 
       full′ : (p : Path) → Ends t (e .node) p → metric t p ≡ e .cost → p ∈ (roots (e .node .level) ++ flatMap (gone t) fs)
-      full′ [] h c = Memᴰ·append-left (flatMap (gone t) fs) (roots-in (e .node .level) (sym (h .level)))
+      full′ [] h c = append-left (flatMap (gone t) fs) (roots-in (e .node .level) (sym (h .level)))
       full′ (b ∷ q) h c =
           let k : Cost t (endNode t q) (cost t (endNode t q)) = cost-is (ends-rest h) in
           let own : cost t (endNode t q) ≡ metric t q = omega (arith, c, k .least q (ends-rest h), cost-enters known k (ends-last h)) in
           let f : Branch = branch (mark t q) b in
           let m : f ∈ fs = L .full f (subst (λ (u : ℕ). Cost t (endNode t q) u) own k) (ends-last h .fits) (entry-path c (sym (ends-last h .leads))) in
-          Memᴰ·append-right (roots (e .node .level)) (flatMap-in (gone t) m (map-in (λ p. b ∷ p) (leastPaths t (endNode t q) (metric t q) .full q (ends-rest h) refl)))
+          append-right (roots (e .node .level)) (flatMap-in (gone t) m (map-in (λ p. b ∷ p) (leastPaths t (endNode t q) (metric t q) .full q (ends-rest h) refl)))
 
   -- as many least paths as the sources of its least branches have together
   pub sharing-total : shared t e ≡ starting (e .node .level) + total (map (λ f. shared t (f .source)) fs)

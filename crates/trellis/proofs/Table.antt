@@ -1,27 +1,27 @@
 -- What the rows of the search say: the table's invariant, over the branches taken so far, and that a row for the next branch keeps it.
 -- Where the rows' paths are is in Trace, the search's own steps in Relax and Between. Assumes nothing.
-use mathlib.Core.Path.{_≡_, refl, sym, ap, ap₂, _∙_, subst}
+use mathlib.Core.Path.{_≡_, sym, ap, _∙_, subst}
 use mathlib.Core.Logic.{_⊎_, inl, inr}
-use mathlib.Core.List.{List, [], _∷_, map, List·Memᴰ·head, List·Memᴰ·tail, Memᴰ·cast}
+use mathlib.Core.List.{List, [], _∷_, map}
 use mathlib.Core.Bool.{Bool, true, false, _&&_}
-use Prim.Native.Nat.{ℕ, zero, suc, _+_, _≤_, _<_, min}
+use Prim.Native.Nat.{ℕ, _+_, _≤_, _<_, min}
 use native.Mathlib.Decide.{ℕ-discrete, decLt}
 use native.Mathlib.Omega.{arith}
 use lib.Dec.{T, eqb, eqb→eq, eqb-refl}
 use lib.ListN.{length, take}
 use Rattle.lists.specs.Lists.{_∈_, keep}
 use Rattle.lists.proofs.Tests.{and-in, and-out}
-use Rattle.lists.proofs.Membership.{keep-yes, keep-no, keep-none}
+use Rattle.lists.proofs.Membership.{here, further, member-cast, keep-yes, keep-no, keep-none}
 use Rattle.lists.proofs.Unique.{Unique}
 use Rattle.lists.proofs.Distinct.{Equality}
 use Rattle.trellis.specs.Trellis.{Trellis, Node, same, terminal, allowed}
 use Rattle.trellis.specs.Verdict.{Entry, entry, ranked}
 use Rattle.trellis.specs.Sheet.{onto}
-use Rattle.trellis.specs.Search.{Row, rowAt}
+use Rattle.trellis.specs.Search.{Row, rowAt, entryAt, nodeAt, costAt}
 use Rattle.trellis.proofs.Paths.{same-equality}
 use Rattle.trellis.proofs.Order.{entry-path}
 use Rattle.trellis.proofs.Step.{Closed}
-use Rattle.trellis.proofs.Sharing.{Branch, branch, lands, Fits, shared, starting, total}
+use Rattle.trellis.proofs.Sharing.{Branch, lands, Fits, shared, starting, total}
 use Rattle.trellis.proofs.Rows.{true-false, Changed}
 
 -- ---- branches that arrive
@@ -30,8 +30,12 @@ use Rattle.trellis.proofs.Rows.{true-false, Changed}
 abbrev pub alike : Entry → Entry → Bool
 alike x y = eqb (x .cost) (y .cost) && same (x .node) (y .node)
 
+-- so keep by it is keep by equality
 pub alike-equality : Equality alike
-alike-equality = record { sound = (λ x y h. sound x y h); complete = (λ x. and-in (eqb (x .cost) (x .cost)) (same (x .node) (x .node)) (eqb-refl (x .cost)) (same-equality .complete (x .node))) }
+alike-equality = record {
+  sound = (λ x y h. sound x y h);
+  complete = (λ x. and-in (eqb (x .cost) (x .cost)) (same (x .node) (x .node)) (eqb-refl (x .cost)) (same-equality .complete (x .node)));
+}
   where
     sound : (x y : Entry) → T (alike x y) → x ≡ y
     sound x y h =
@@ -60,10 +64,8 @@ module _ (t : Trellis) (taken : List Branch) (e : Entry) where
     pub ways-more : lands t g ≡ e → ways t (g ∷ taken) e ≡ shared t (g .source) + ways t taken e
     unfolding ways total
     ways-more h =
-        let l : arriving t (g ∷ taken) e ≡ g ∷ arriving t taken e = keep-yes (λ f. alike (lands t f) e) g taken (subst (λ (u : Entry). T (alike (lands t g) u)) h (alike-equality .complete (lands t g))) in
-        let n : total (map (λ (f : Branch). shared t (f .source)) (arriving t (g ∷ taken) e)) ≡ shared t (g .source) + total (map (λ (f : Branch). shared t (f .source)) (arriving t taken e)) =
-        ap (λ (k : List Branch). total (map (λ f. shared t (f .source)) k)) l in
-        omega arith
+        let hit : T (alike (lands t g) e) = subst (λ (u : Entry). T (alike (lands t g) u)) h (alike-equality .complete (lands t g)) in
+        omega (arith, ap (λ (k : List Branch). total (map (λ f. shared t (f .source)) k)) (keep-yes (λ f. alike (lands t f) e) g taken hit))
 
     -- one more branch brings something else
     pub ways-same : (lands t g ≡ e → ⊥) → ways t (g ∷ taken) e ≡ ways t taken e
@@ -77,39 +79,39 @@ module _ (t : Trellis) (taken : List Branch) (e : Entry) where
 pub record Link (t : Trellis) (rows : List Row) (r : Row) : Type 0 where
   pub within : r .parent < length rows
   pub shut : rowAt rows (r .parent) .closed ≡ true
-  pub fits : r .input < allowed t (rowAt rows (r .parent) .entry .node .level)
-  pub comes : r .entry ≡ onto t (rowAt rows (r .parent) .entry) (r .input)
+  pub fits : r .input < allowed t (nodeAt rows (r .parent) .level)
+  pub comes : r .entry ≡ onto t (entryAt rows (r .parent)) (r .input)
 
 -- an entry that a closed row has
 pub record Stored (rows : List Row) (e : Entry) : Type 0 where
   pub row : ℕ
   pub within : row < length rows
   pub shut : rowAt rows row .closed ≡ true
-  pub equal : rowAt rows row .entry ≡ e
+  pub equal : entryAt rows row ≡ e
 
 -- a row for the entry's node, no dearer than the entry
 pub record Covered (rows : List Row) (e : Entry) : Type 0 where
   pub row : ℕ
   pub within : row < length rows
-  pub equal : rowAt rows row .entry .node ≡ e .node
-  pub small : rowAt rows row .entry .cost ≤ e .cost
+  pub equal : nodeAt rows row ≡ e .node
+  pub small : costAt rows row ≤ e .cost
 
 -- the rows with j nodes closed and some branches taken
 pub record Table (t : Trellis) (cap j : ℕ) (taken : List Branch) (rows : List Row) : Type 0 where
   -- the origin has the first row
   pub some : 0 < length rows
-  pub first : rowAt rows 0 .entry ≡ entry 0 0 0
+  pub first : entryAt rows 0 ≡ entry 0 0 0
   -- every other row came from a closed one
   pub linked : (i : ℕ) → 0 < i → i < length rows → Link t rows (rowAt rows i)
   -- no node has two rows
-  pub once : (i k : ℕ) → i < length rows → k < length rows → rowAt rows i .entry .node ≡ rowAt rows k .entry .node → i ≡ k
+  pub once : (i k : ℕ) → i < length rows → k < length rows → nodeAt rows i ≡ nodeAt rows k → i ≡ k
   -- the closed rows are the first j ranked nodes
-  pub shut : (i : ℕ) → i < length rows → rowAt rows i .closed ≡ true → rowAt rows i .entry ∈ take j (ranked t)
+  pub shut : (i : ℕ) → i < length rows → rowAt rows i .closed ≡ true → entryAt rows i ∈ take j (ranked t)
   pub stored : (e : Entry) → e ∈ take j (ranked t) → Stored rows e
   -- every taken branch leads to a row, no dearer than what it brings
   pub reach : (f : Branch) → f ∈ taken → Covered rows (lands t f)
   -- every count is that of the paths which the taken branches bring
-  pub counted : (i : ℕ) → i < length rows → rowAt rows i .count ≡ min cap (ways t taken (rowAt rows i .entry))
+  pub counted : (i : ℕ) → i < length rows → rowAt rows i .count ≡ min cap (ways t taken (entryAt rows i))
   -- the terminal is not closed
   pub ahead : Closed t j (terminal t) → ⊥
 
@@ -136,26 +138,32 @@ pub record Arrives (t : Trellis) (cap : ℕ) (taken : List Branch) (rows : List 
   pub small : r .entry .cost ≤ lands t g .cost
   pub link : Link t rows r
   pub counted : r .count ≡ min cap (ways t (g ∷ taken) (r .entry))
-  pub only : (i : ℕ) → i < length rows → rowAt rows i .entry .node ≡ lands t g .node → i ≡ k
+  pub only : (i : ℕ) → i < length rows → nodeAt rows i ≡ lands t g .node → i ≡ k
   pub known : k < length rows → Survives (rowAt rows k) r
   pub fresh : length rows ≤ k → r .closed ≡ false
 
 survives-same : (r s : Row) → s ≡ r → Survives r s
-survives-same r s e = record { node = ap (λ (u : Row). u .entry .node) e; closed = ap (λ (u : Row). u .closed) e; exact = (λ _. ap (λ (u : Row). u .entry) e); cheaper = omega (arith, ap (λ (u : Row). u .entry .cost) e) }
+survives-same r s e = record {
+  node = ap (λ (u : Row). u .entry .node) e;
+  closed = ap (λ (u : Row). u .closed) e;
+  exact = (λ _. ap (λ (u : Row). u .entry) e);
+  cheaper = omega (arith, ap (λ (u : Row). u .entry .cost) e);
+}
 
-module _ (t : Trellis) (cap j : ℕ) (taken : List Branch) (rows after : List Row) (g : Branch) (k : ℕ) (r : Row)
+module _ {t : Trellis} {cap j : ℕ} {taken : List Branch} {rows after : List Row} {g : Branch} {k : ℕ} {r : Row}
     (B : Table t cap j taken rows) (C : Changed rows after k r) (A : Arrives t cap taken rows g k r) where
+  -- what becomes of each row, the changed one too
   pub survives : (i : ℕ) → i < length rows → Survives (rowAt rows i) (rowAt after i)
   survives i h = go (ℕ-discrete i k)
     where
       go : Dec (i ≡ k) → Survives (rowAt rows i) (rowAt after i)
       go (yes e) = subst (λ (u : ℕ). Survives (rowAt rows u) (rowAt after u)) (sym e) (subst (λ (u : Row). Survives (rowAt rows k) u) (sym (C .here)) (A .known (rw (sym e) h)))
-      go (no d) = survives-same (rowAt rows i) (rowAt after i) (C .others i (omega (arith, C .longer)) d .1)
+      go (no d) = survives-same (rowAt rows i) (rowAt after i) (C .others i (omega (arith, C .longer)) d)
 
   link-more : (s : Row) → Link t rows s → Link t after s
   link-more s l =
       let v : Survives (rowAt rows (s .parent)) (rowAt after (s .parent)) = survives (s .parent) (l .within) in
-      let e : rowAt after (s .parent) .entry ≡ rowAt rows (s .parent) .entry = v .exact (l .shut) in
+      let e : entryAt after (s .parent) ≡ entryAt rows (s .parent) = v .exact (l .shut) in
       record {
         within = omega (arith, l .within, C .longer);
         shut = v .closed ∙ l .shut;
@@ -178,10 +186,10 @@ module _ (t : Trellis) (cap j : ℕ) (taken : List Branch) (rows after : List Ro
     where
       go : Dec (i ≡ k) → New i ⊎ Old i
       go (yes e) = inl (record { place = e; equal = ap (rowAt after) e ∙ C .here })
-      go (no d) = inr (record { within = C .others i h d .0; equal = C .others i h d .1; apart = d })
+      go (no d) = inr (record { within = C .older i h d; equal = C .others i h d; apart = d })
 
   -- no other row has r's node
-  alone : (i : ℕ) → Old i → rowAt rows i .entry .node ≡ lands t g .node → ⊥
+  alone : (i : ℕ) → Old i → nodeAt rows i ≡ lands t g .node → ⊥
   alone i o e = o .apart (A .only i (o .within) e)
 
   -- the table with the branch taken
@@ -198,9 +206,9 @@ module _ (t : Trellis) (cap j : ℕ) (taken : List Branch) (rows after : List Ro
     ahead = B .ahead;
   }
     where
-      first′ : New 0 ⊎ Old 0 → rowAt after 0 .entry ≡ entry 0 0 0
+      first′ : New 0 ⊎ Old 0 → entryAt after 0 ≡ entry 0 0 0
       first′ (inl n) =
-          let v : rowAt after 0 .entry .node .level ≡ rowAt rows 0 .entry .node .level = ap (λ (u : Node). u .level) (survives 0 (B .some) .node) in
+          let v : nodeAt after 0 .level ≡ nodeAt rows 0 .level = ap (λ (u : Node). u .level) (survives 0 (B .some) .node) in
           absurd (omega (arith, ap (λ (u : Entry). u .node .level) (B .first), ap (λ (u : Row). u .entry .node .level) (n .equal), ap (λ (u : Node). u .level) (A .node)))
       first′ (inr o) = ap (λ (u : Row). u .entry) (o .equal) ∙ B .first
 
@@ -208,19 +216,19 @@ module _ (t : Trellis) (cap j : ℕ) (taken : List Branch) (rows after : List Ro
       linked′ i u (inl n) = subst (Link t after) (sym (n .equal)) (link-more r (A .link))
       linked′ i u (inr o) = subst (Link t after) (sym (o .equal)) (link-more (rowAt rows i) (B .linked i u (o .within)))
 
-      once′ : (i l : ℕ) → i < length after → l < length after → rowAt after i .entry .node ≡ rowAt after l .entry .node → New i ⊎ Old i → New l ⊎ Old l → i ≡ l
+      once′ : (i l : ℕ) → i < length after → l < length after → nodeAt after i ≡ nodeAt after l → New i ⊎ Old i → New l ⊎ Old l → i ≡ l
       once′ i l h m e (inl p) (inl q) = p .place ∙ sym (q .place)
       once′ i l h m e (inl p) (inr q) = absurd (alone l q (cc (e, p .equal, q .equal, A .node)))
       once′ i l h m e (inr p) (inl q) = absurd (alone i p (cc (e, q .equal, p .equal, A .node)))
       once′ i l h m e (inr p) (inr q) = B .once i l (p .within) (q .within) (cc (e, p .equal, q .equal))
 
       again : r .closed ≡ true → Dec (k < length rows) → r .entry ∈ take j (ranked t)
-      again c (yes h) = let v = A .known h in let o : rowAt rows k .closed ≡ true = sym (v .closed) ∙ c in Memᴰ·cast (v .exact o) (B .shut k h o)
+      again c (yes h) = let v = A .known h in let o : rowAt rows k .closed ≡ true = sym (v .closed) ∙ c in member-cast (v .exact o) (B .shut k h o)
       again c (no h) = absurd (true-false (sym c ∙ A .fresh (omega arith)))
 
-      shut′ : (i : ℕ) → rowAt after i .closed ≡ true → New i ⊎ Old i → rowAt after i .entry ∈ take j (ranked t)
-      shut′ i c (inl n) = Memᴰ·cast (ap (λ (u : Row). u .entry) (n .equal)) (again (cc (c, n .equal)) (decLt k (length rows)))
-      shut′ i c (inr o) = Memᴰ·cast (ap (λ (u : Row). u .entry) (o .equal)) (B .shut i (o .within) (cc (c, o .equal)))
+      shut′ : (i : ℕ) → rowAt after i .closed ≡ true → New i ⊎ Old i → entryAt after i ∈ take j (ranked t)
+      shut′ i c (inl n) = member-cast (ap (λ (u : Row). u .entry) (n .equal)) (again (cc (c, n .equal)) (decLt k (length rows)))
+      shut′ i c (inr o) = member-cast (ap (λ (u : Row). u .entry) (o .equal)) (B .shut i (o .within) (cc (c, o .equal)))
 
       stored′ : {e : Entry} → Stored rows e → Stored after e
       stored′ s =
@@ -228,14 +236,19 @@ module _ (t : Trellis) (cap j : ℕ) (taken : List Branch) (rows after : List Ro
           record { row = s .row; within = omega (arith, s .within, C .longer); shut = v .closed ∙ s .shut; equal = v .exact (s .shut) ∙ s .equal }
 
       reach′ : (f : Branch) → f ∈ (g ∷ taken) → Covered after (lands t f)
-      reach′ f (List·Memᴰ·head e) = subst (λ (u : Branch). Covered after (lands t u)) (sym e)
-          (record { row = k; within = C .within; equal = ap (λ (u : Row). u .entry .node) (C .here) ∙ A .node; small = omega (arith, ap (λ (u : Row). u .entry .cost) (C .here), A .small) })
-      reach′ f (List·Memᴰ·tail m) =
+      reach′ f (here e) = subst (λ (u : Branch). Covered after (lands t u)) (sym e)
+          (record {
+            row = k;
+            within = C .within;
+            equal = ap (λ (u : Row). u .entry .node) (C .here) ∙ A .node;
+            small = omega (arith, ap (λ (u : Row). u .entry .cost) (C .here), A .small);
+          })
+      reach′ f (further m) =
           let s = B .reach f m in
           let v = survives (s .row) (s .within) in
           record { row = s .row; within = omega (arith, s .within, C .longer); equal = v .node ∙ s .equal; small = omega (arith, v .cheaper, s .small) }
 
-      counted′ : (i : ℕ) → New i ⊎ Old i → rowAt after i .count ≡ min cap (ways t (g ∷ taken) (rowAt after i .entry))
+      counted′ : (i : ℕ) → New i ⊎ Old i → rowAt after i .count ≡ min cap (ways t (g ∷ taken) (entryAt after i))
       counted′ i (inl n) = subst (λ (u : Row). u .count ≡ min cap (ways t (g ∷ taken) (u .entry))) (sym (n .equal)) (A .counted)
       counted′ i (inr o) = subst (λ (u : Row). u .count ≡ min cap (ways t (g ∷ taken) (u .entry))) (sym (o .equal))
-          (B .counted i (o .within) ∙ ap (min cap) (sym (ways-same t taken (rowAt rows i .entry) g (λ e. alone i o (ap (λ (u : Entry). u .node) (sym e))))))
+          (B .counted i (o .within) ∙ ap (min cap) (sym (ways-same t taken (entryAt rows i) g (λ e. alone i o (ap (λ (u : Entry). u .node) (sym e))))))

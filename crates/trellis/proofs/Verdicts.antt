@@ -1,11 +1,11 @@
 -- The verdict by how a search came to its end: no room at all, full after j steps, the allowance spent, the terminal found.
 -- What the search's last step cites. Assumes nothing.
-use mathlib.Core.Path.{_≡_, refl, ap}
+use mathlib.Core.Path.{_≡_, ap}
 use Prim.Native.Nat.{ℕ, suc, _≤_, _<_, min}
 use native.Mathlib.Omega.{arith}
 use borrow.Author.Tests.{lt-ltb, le-ltb}
 use Rattle.trellis.specs.Trellis.{Trellis}
-use Rattle.trellis.specs.Verdict.{steps, met, lastFit, decided, leastMessages, verdict, roomShort, allowanceSpent}
+use Rattle.trellis.specs.Verdict.{steps, met, decided, leastMessages, verdict, roomShort, allowanceSpent}
 use Rattle.trellis.proofs.MetNodes.{met-mono, met-some, lastFit-is, lastFit-none}
 
 -- not even the origin has room

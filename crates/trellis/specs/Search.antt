@@ -30,8 +30,19 @@ pub record Row : Type 0 where
 abbrev pub noRow : Row
 noRow = record { entry = entry 0 0 0; count = 0; parent = 0; input = 0; closed = true }
 
+-- row i
 abbrev pub rowAt : List Row → ℕ → Row
 rowAt rows i = getD rows i noRow
+
+-- the parts of a row that are asked for most
+abbrev pub entryAt : List Row → ℕ → Entry
+entryAt rows i = rowAt rows i .entry
+
+abbrev pub nodeAt : List Row → ℕ → Node
+nodeAt rows i = rowAt rows i .entry .node
+
+abbrev pub costAt : List Row → ℕ → ℕ
+costAt rows i = rowAt rows i .entry .cost
 
 -- ---- the store
 
@@ -49,27 +60,31 @@ unfoldable pub firstOpen : List Row → ℕ
 firstOpen [] = 0
 firstOpen (r ∷ rows) =
     let rest : ℕ = firstOpen rows in
-    cond (r .closed) (suc rest) (cond (ltb rest (length rows) && before (rowAt rows rest .entry) (r .entry)) (suc rest) 0)
+    cond (r .closed) (suc rest) (cond (ltb rest (length rows) && before (entryAt rows rest) (r .entry)) (suc rest) 0)
 
 -- a row at the end
 abbrev pub added : List Row → Row → List Row
 added rows r = rows ++ (r ∷ [])
 
 -- a cheaper way to the node of row i: all of the row but the node is new
-abbrev pub lowered : List Row → ℕ → Row → List Row
+abbrev pub lowered : (rows : List Row) (i : ℕ) (r : Row) → List Row
 lowered rows i r = set rows i r
 
--- so many more paths of the same cost to the node of row i
-abbrev pub joined : ℕ → List Row → ℕ → ℕ → List Row
-joined cap rows i more =
-    let r : Row = rowAt rows i in
-    set rows i (record { entry = r .entry; count = min cap (r .count + more); parent = r .parent; input = r .input; closed = r .closed })
+-- so many more paths of the same cost
+abbrev pub gained : (cap more : ℕ) → Row → Row
+gained cap more r = record { entry = r .entry; count = min cap (r .count + more); parent = r .parent; input = r .input; closed = r .closed }
+
+-- so many more paths to the node of row i
+abbrev pub joined : (cap : ℕ) (rows : List Row) (i more : ℕ) → List Row
+joined cap rows i more = set rows i (gained cap more (rowAt rows i))
+
+-- the row expanded
+abbrev pub shut : Row → Row
+shut r = record { entry = r .entry; count = r .count; parent = r .parent; input = r .input; closed = true }
 
 -- row i is expanded
-abbrev pub closed : List Row → ℕ → List Row
-closed rows i =
-    let r : Row = rowAt rows i in
-    set rows i (record { entry = r .entry; count = r .count; parent = r .parent; input = r .input; closed = true })
+abbrev pub closed : (rows : List Row) (i : ℕ) → List Row
+closed rows i = set rows i (shut (rowAt rows i))
 
 -- ---- one branch and one node
 
@@ -78,37 +93,37 @@ pub record Tried : Type 0 where
   pub rows : List Row
   pub full : Bool
 
--- what a branch brings to the node where it leads: from row i with an input
-abbrev pub arrival : Trellis → List Row → ℕ → ℕ → Row
-arrival t rows i b = record { entry = onto t (rowAt rows i .entry) b; count = rowAt rows i .count; parent = i; input = b; closed = false }
+-- what the branch from row i with input b brings to the node where it leads
+abbrev pub arrival : (t : Trellis) (rows : List Row) (i b : ℕ) → Row
+arrival t rows i b = record { entry = onto t (entryAt rows i) b; count = rowAt rows i .count; parent = i; input = b; closed = false }
 
--- An arrival entered, k being the index of its node's row: a new node's row is added if there is room; a known node's row is lowered
+-- An arrival a entered, k being the index of its node's row: a new node's row is added if there is room; a known node's row is lowered
 -- if the arrival is cheaper, joined if it costs the same, left if it is dearer.
-unfoldable pub entered : ℕ → ℕ → List Row → Row → ℕ → Tried
+unfoldable pub entered : (cap room : ℕ) (rows : List Row) (a : Row) (k : ℕ) → Tried
 entered cap room rows a k =
     cond (ltb k (length rows))
-    (cond (ltb (a .entry .cost) (rowAt rows k .entry .cost)) (record { rows = lowered rows k a; full = false })
-    (cond (eqb (a .entry .cost) (rowAt rows k .entry .cost)) (record { rows = joined cap rows k (a .count); full = false })
+    (cond (ltb (a .entry .cost) (costAt rows k)) (record { rows = lowered rows k a; full = false })
+    (cond (eqb (a .entry .cost) (costAt rows k)) (record { rows = joined cap rows k (a .count); full = false })
     (record { rows = rows; full = false })))
     (cond (ltb (length rows) room) (record { rows = added rows a; full = false })
     (record { rows = rows; full = true }))
 
--- the branch from row i with an input
-unfoldable pub relax : Trellis → ℕ → ℕ → ℕ → ℕ → List Row → Tried
+-- the branch from row i with input b
+unfoldable pub relax : (t : Trellis) (cap room i b : ℕ) → List Row → Tried
 relax t cap room i b rows = let a : Row = arrival t rows i b in entered cap room rows a (findRow (a .entry .node) rows)
 
 -- go on where there was room
 unfoldable pub onward : Tried → (List Row → Tried) → Tried
 onward r go = let next : Tried = go (r .rows) in cond (r .full) r next
 
--- so many branches from row i, from an input upwards, up to the first that has no room
-unfoldable pub fan : Trellis → ℕ → ℕ → ℕ → ℕ → ℕ → List Row → Tried
+-- so many branches from row i, from input b upwards, up to the first that has no room
+unfoldable pub fan : (t : Trellis) (cap room i left b : ℕ) → List Row → Tried
 fan t cap room i zero b rows = record { rows = rows; full = false }
 fan t cap room i (suc left) b rows = onward (relax t cap room i b rows) (λ next. fan t cap room i left (suc b) next)
 
 -- row i closed, then all of its branches
-unfoldable pub expand : Trellis → ℕ → ℕ → ℕ → List Row → Tried
-expand t cap room i rows = fan t cap room i (allowed t (rowAt rows i .entry .node .level)) 0 (closed rows i)
+unfoldable pub expand : (t : Trellis) (cap room i : ℕ) → List Row → Tried
+expand t cap room i rows = fan t cap room i (allowed t (nodeAt rows i .level)) 0 (closed rows i)
 
 -- ---- the run
 
@@ -126,30 +141,30 @@ pub record Ended : Type 0 where
   pub outcome : Outcome
 
 -- the terminal is first: nothing more is done
-abbrev pub arrived : List Row → ℕ → ℕ → Ended
-arrived rows i steps = record { rows = rows; outcome = found (rowAt rows i .entry .cost) steps (rowAt rows i .count) i }
+abbrev pub arrived : (rows : List Row) (i steps : ℕ) → Ended
+arrived rows i steps = record { rows = rows; outcome = found (costAt rows i) steps (rowAt rows i .count) i }
 
--- the rows after so many steps, and how many steps more are allowed
-unfoldable pub run : Trellis → ℕ → ℕ → ℕ → ℕ → List Row → Ended
+-- from the rows after so many steps, with so many more allowed: take the first open row, end if it is the terminal's, else expand it
+unfoldable pub run : (t : Trellis) (cap room left steps : ℕ) → List Row → Ended
 run t cap room zero steps rows =
     let i : ℕ = firstOpen rows in
-    cond (same (rowAt rows i .entry .node) (terminal t)) (arrived rows i steps) (record { rows = rows; outcome = spent steps })
+    cond (same (nodeAt rows i) (terminal t)) (arrived rows i steps) (record { rows = rows; outcome = spent steps })
 run t cap room (suc left) steps rows =
     let i : ℕ = firstOpen rows in
     let next : Tried = expand t cap room i rows in
     let rest : Ended = run t cap room left (suc steps) (next .rows) in
     let further : Ended = cond (next .full) (record { rows = next .rows; outcome = full steps }) rest in
-    cond (same (rowAt rows i .entry .node) (terminal t)) (arrived rows i steps) further
+    cond (same (nodeAt rows i) (terminal t)) (arrived rows i steps) further
 
 -- the whole search: without room for the origin it does nothing
-unfoldable pub searched : Trellis → ℕ → ℕ → ℕ → Ended
+unfoldable pub searched : (t : Trellis) (cap room allowance : ℕ) → Ended
 searched t cap zero allowance = record { rows = []; outcome = full 0 }
 searched t cap (suc room) allowance = run t cap (suc room) allowance 0 started
 
 -- ---- the answer
 
 -- the path to a row at a level: its input, then that of the row before it, one level lower each time
-unfoldable pub trace : List Row → ℕ → ℕ → Path
+unfoldable pub trace : (rows : List Row) (level i : ℕ) → Path
 trace rows zero i = []
 trace rows (suc level) i = rowAt rows i .input ∷ trace rows level (rowAt rows i .parent)
 

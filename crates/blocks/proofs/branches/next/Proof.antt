@@ -1,13 +1,12 @@
 -- `branches::next` meets its contract: a state of at most 16 bits is not cut, and stays a state. Assumes nothing.
 use borrow.Author.Needs.{needs}
-use mathlib.Core.Path.{_≡_}
 use native.Mathlib.Omega.{arith}
 use Rattle.codes.proofs.Registers.{power-small, next-below}
 use Rattle.blocks.proofs.branches.next.Statement.{statement}
 use Rattle.blocks.proofs.branches.next.Tie as tie
 
-cast-t5 : tie.Need-cast-t5
-cast-t5 c = omega (arith, power-small (c .args .code .memory) (omega arith))
+cast-narrow : tie.Need-cast-narrow
+cast-narrow c = omega (arith, power-small (c .args .code .memory) (omega arith))
 
 cast-next : tie.Need-cast-next
 cast-next c = search needs
@@ -26,4 +25,4 @@ returns c =
     (k .next .ensures .1, rw (k .next .ensures .1) below)
 
 pub next-spec : {M : Type 1} → statement M
-next-spec = tie.close (tie.spec cast-t5 cast-next next-requires cast-result returns)
+next-spec = tie.close (tie.spec cast-narrow cast-next next-requires cast-result returns)

@@ -1,11 +1,10 @@
 -- `branches::price` meets its contract: what is paid so far and the distance of the outputs that are left make the whole distance (the
 -- record Pricing). Assumes nothing.
 use borrow.Author.Needs.{needs, length-unmapped}
-use mathlib.Core.Path.{_≡_, refl, sym, ap, _∙_}
+use mathlib.Core.Path.{_≡_, sym, ap, _∙_}
 use mathlib.Core.List.{List}
-use Prim.Native.Nat.{ℕ, _+_, _-_, _*_, _%_, _≤_, _<_}
+use Prim.Native.Nat.{ℕ, _+_, _-_, _*_, _<_}
 use native.Mathlib.Omega.{arith}
-use lib.Dec.{eqb}
 use lib.ListN.{length, getD, take, drop, length-map, List·getD-map}
 use lib.Seq.{length-take-le, getD-take}
 use Rattle.codes.specs.Codes.{generatorsOf, outputBit, branchOutputs}
@@ -14,16 +13,16 @@ use Rattle.codes.proofs.Rules.{Bounds, lawful-out}
 use Rattle.blocks.specs.Blocks.{distance, branchCost}
 use Rattle.blocks.specs.Packed.{unpack, seenIn}
 use Rattle.blocks.proofs.Packing.{seenIn-at, length-seenIn}
-use Rattle.blocks.proofs.Prices.{paid-small, Pricing, pricing-start, pricing-next, pricing-done}
+use Rattle.blocks.proofs.Prices.{Pricing, pricing-start, pricing-next, pricing-done}
 use Rattle.blocks.proofs.branches.price.Statement.{statement}
 use Rattle.blocks.proofs.branches.price.Tie as tie
 
 abbrev Inv-loop : tie.InvT-loop
-Inv-loop seen level state input n generators register first total₀ j₀ total j =
+Inv-loop seen level state input n generators narrow register first total₀ j₀ total j =
     Pricing (branchOutputs (take n generators) register) (seenIn seen) first total j
 
 abbrev μ-loop : tie.MeasureT-loop
-μ-loop seen level state input n generators register first total₀ j₀ total j = n - j
+μ-loop seen level state input n generators narrow register first total₀ j₀ total j = n - j
 
 -- ---- the places of the walk, and what is known there
 
@@ -51,12 +50,9 @@ counted a =
 -- the symbol of the turn is there
 there : (w : tie.In-loop Inv-loop μ-loop) → let a = w .before in let s = entry a in
     s .args .level * s .args .code .outputs + a .loop .j < length (s .args .seen .now)
-there w = omega (arith, entry (w .before) .pre .within, w .loop-test .taken)
+there w = omega (arith, entry (w .before) .pre .within)
 
--- what a turn reads, and the output that it compares
-abbrev read : tie.In-loop Inv-loop μ-loop → ℕ
-read w = let a = w .before in let s = entry a in getD (s .args .seen .now) (s .args .level * s .args .code .outputs + a .loop .j) 0
-
+-- the output that a turn compares is the branch's
 compared : (c : tie.After-output-bit Inv-loop μ-loop) → let a = c .before .before in
     c .output-bit .result ≡ getD (outputs a) (a .loop .j) (outputBit (a .before .with .result) 0)
 compared c =
@@ -66,21 +62,13 @@ compared c =
     ∙ sym (ap (outputBit (a .before .with .result)) (getD-take (code .outputs) (code .generators) (a .loop .j) 0 (c .before .loop-test .taken)))
     ∙ sym (List·getD-map (outputBit (a .before .with .result)) (generatorsOf code) (a .loop .j) 0)
 
--- what a turn pays is small
-small : (c : tie.After-toll Inv-loop μ-loop) → c .toll .result ≤ 32767
-small c =
-    let w = c .before .before .before in
-    let s = entry (w .before) in
-    let k = s .args .level * s .args .code .outputs + w .before .loop .j in
-    omega (arith, c .toll .ensures, paid-small (eqb (c .before .before .output-bit .result) (read w % 2)) (read w) (omega (arith, c .before .shared-slice-known2 .given k)))
-
 -- ---- the answers
 
 cast-n : tie.Need-cast-n Inv-loop μ-loop
 cast-n c = search needs
 
-cast-t12 : tie.Need-cast-t12 Inv-loop μ-loop
-cast-t12 c = omega (arith, state-small (c .before .before .before))
+cast-narrow : tie.Need-cast-narrow Inv-loop μ-loop
+cast-narrow c = omega (arith, state-small (c .before .before .before))
 
 cast-with : tie.Need-cast-with Inv-loop μ-loop
 cast-with c = omega (arith, c .before .before .before .pre .input-bit)
@@ -89,16 +77,16 @@ with-requires : tie.Need-with-requires Inv-loop μ-loop
 with-requires c κs = let s = c .before .before .before in (bounds s .memory-most, s .pre .state-below, s .pre .input-bit)
 
 mul-first : tie.Need-mul-first Inv-loop μ-loop
-mul-first c = let s = c .before .before .before .before in omega (arith, s .pre .within, s .good .1 .0 .0)
+mul-first c = let s = c .before .before .before .before in omega (arith, s .good .1 .0 .0)
 
 loop-holds : tie.Need-loop-holds Inv-loop μ-loop
 loop-holds c = pricing-start _ _ _
 
 mul-output-bit : tie.Need-mul-output-bit Inv-loop μ-loop
-mul-output-bit c = omega (arith, bounds (entry (c .before)) .outputs-most, c .loop-test .taken)
+mul-output-bit c = omega (arith, bounds (entry (c .before)) .outputs-most)
 
 array-read-output-bit : tie.Need-array-read-output-bit Inv-loop μ-loop
-array-read-output-bit c = omega (arith, bounds (entry (c .before)) .outputs-most, c .loop-test .taken)
+array-read-output-bit c = omega (arith, bounds (entry (c .before)) .outputs-most)
 
 output-bit-requires : tie.Need-output-bit-requires Inv-loop μ-loop
 output-bit-requires c κs = tt
@@ -110,7 +98,7 @@ mul-toll : tie.Need-mul-toll Inv-loop μ-loop
 mul-toll c = omega (arith, there (c .before), entry (c .before .before) .good .1 .0 .0)
 
 shared-slice-read-toll : tie.Need-shared-slice-read-toll Inv-loop μ-loop
-shared-slice-read-toll c = there (c .before .before)
+shared-slice-read-toll c = omega (arith, there (c .before .before))
 
 toll-requires : tie.Need-toll-requires Inv-loop μ-loop
 toll-requires c κs = tt
@@ -118,13 +106,13 @@ toll-requires c κs = tt
 add-total : tie.Need-add-total Inv-loop μ-loop
 add-total c =
     let a = c .before .before .before .before in
-    omega (arith, small c, a .loop .inv .small, a .loop .inv .within, counted a, bounds (entry a) .outputs-most)
+    omega (arith, a .loop .inv .small, a .loop .inv .within, counted a, bounds (entry a) .outputs-most)
 
 add-j : tie.Need-add-j Inv-loop μ-loop
-add-j c = omega (arith, bounds (entry (c .before .before .before .before)) .outputs-most, c .before .before .before .loop-test .taken)
+add-j c = omega (arith, bounds (entry (c .before .before .before .before)) .outputs-most)
 
 loop-less : tie.Need-loop-less Inv-loop μ-loop
-loop-less c = omega (arith, c .before .before .before .loop-test .taken)
+loop-less c = omega arith
 
 loop-again : tie.Need-loop-again Inv-loop μ-loop
 loop-again c =
@@ -133,10 +121,10 @@ loop-again c =
     let s = entry a in
     let first = s .args .level * s .args .code .outputs in
     pricing-next (outputs a) (seenIn (s .args .seen .now)) first (a .loop .total) (a .loop .j) (a .loop .inv) (outputBit (a .before .with .result) 0) (unpack 0) (c .toll .result)
-    (omega (arith, counted a, w .loop-test .taken))
+    (omega (arith, counted a))
     (omega (arith, there w, length-seenIn (s .args .seen .now)))
-    (small c)
-    (rw (seenIn-at (s .args .seen .now) (first + a .loop .j)) (rw (compared (c .before .before)) at (c .toll .ensures)))
+    (c .toll .ensures .1)
+    (rw (seenIn-at (s .args .seen .now) (first + a .loop .j)) (rw (compared (c .before .before)) at (c .toll .ensures .0)))
 
 returns : tie.Need-returns Inv-loop μ-loop
 unfolding branchCost
@@ -158,7 +146,7 @@ price-spec =
     Inv-loop
     μ-loop
     cast-n
-    cast-t12
+    cast-narrow
     cast-with
     with-requires
     mul-first

@@ -1,9 +1,12 @@
 -- `encoding::line` is safe and ends: the part that is lent has the room's length. Assumes nothing.
-use borrow.Author.Needs.{needs}
 use mathlib.Core.Path.{sym}
 use lib.Seq.{length-take-le}
+use borrow.Author.Needs.{needs}
 use Rattle.cases.proofs.encoding.line.Statement.{statement}
 use Rattle.cases.proofs.encoding.line.Tie as tie
+
+bytes-requires : tie.Need-bytes-requires
+bytes-requires c κs = search needs
 
 text-requires : tie.Need-text-requires
 text-requires c κs = search needs
@@ -27,6 +30,7 @@ pub line-spec : {M : Type 1} → statement M
 line-spec =
     tie.close
     (tie.spec
+    bytes-requires
     text-requires
     array-borrow-prefix-out
     slice-aggregate-tried

@@ -1,5 +1,4 @@
 -- `encoder::are_bits` meets its contract: the bytes behind place i are all bits exactly if all bytes are. Assumes nothing.
-use borrow.Author.Needs.{needs}
 use borrow.Author.Tests.{le-leb, lt-leb}
 use mathlib.Core.Path.{_≡_, refl, sym, _∙_}
 use Prim.Native.Nat.{_-_}

@@ -3,18 +3,17 @@ use borrow.Author.Needs.{needs, length-unmapped}
 use borrow.Author.Tests.{le-leb, lt-leb, not-true, not-false}
 use mathlib.Core.Path.{_≡_, sym, ap, _∙_}
 use mathlib.Core.Bool.{true}
-use mathlib.Core.List.{List, _++_}
-use Prim.Native.Nat.{ℕ, _+_, _*_, _≤_}
+use mathlib.Core.List.{_++_}
+use Prim.Native.Nat.{ℕ, _+_}
 use native.Mathlib.Nat.{mul-le-mul-right}
 use native.Mathlib.Omega.{arith}
 use lib.ListN.{length, drop}
-use lib.Seq.{sets}
 use Rattle.lists.proofs.Writing.{sets-front}
 use Rattle.codes.specs.Codes.{lawful, codeword, blockLength}
 use Rattle.codes.specs.Encoding.{Encodable, sizesFit, handed, told}
 use Rattle.codes.proofs.Codewords.{length-codeword}
 use Rattle.codes.proofs.Encodings.{encoding-bad-code, encoding-bad-size, encoding-malformed, encoding-done}
-use Rattle.codes.proofs.Rules.{Bounds, lawful-out}
+use Rattle.codes.proofs.Rules.{lawful-out}
 use Rattle.codes.proofs.encoder.encode.Statement.{statement}
 use Rattle.codes.proofs.encoder.encode.Tie as tie
 

@@ -1,9 +1,8 @@
 -- `encoder::put_branch` meets its contract: writing the outputs that are left over the buffer as it is gives the whole branch.
 -- Assumes nothing.
-use borrow.Author.Needs.{needs}
 use mathlib.Core.Path.{_≡_, refl, sym, ap, _∙_}
 use mathlib.Core.List.{List}
-use Prim.Native.Nat.{ℕ, _+_, _-_, _≤_, _<_}
+use Prim.Native.Nat.{ℕ, _+_, _-_, _≤_}
 use native.Mathlib.Omega.{arith}
 use lib.ListN.{length, getD, take, drop, length-map, length-set, List·getD-map}
 use lib.Seq.{sets, length-take-le, getD-take}

@@ -1,7 +1,6 @@
 -- `table::house` meets its contract: the table of src/ is the table of specs/, and behind it stands the code of zeros. Assumes nothing.
 use borrow.Author.Needs.{needs}
 use mathlib.Core.Path.{sym}
-use mathlib.Core.List.{[], _∷_}
 use lib.ListN.{List·getD-eq-default}
 use Rattle.lists.proofs.Places.{getD-within}
 use Rattle.codes.specs.Codes.{houseCodes, houseCode}

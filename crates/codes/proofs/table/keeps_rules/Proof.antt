@@ -1,13 +1,11 @@
 -- `table::keeps_rules` meets its contract: each test is a part of the rule, in its order. Assumes nothing.
 use borrow.Author.Needs.{needs}
 use borrow.Author.Tests.{le-leb, lt-leb}
-use mathlib.Core.Path.{_≡_, ap, _∙_}
+use mathlib.Core.Path.{_≡_, _∙_}
 use Prim.Native.Nat.{ℕ, _+_, _-_, _*_, _%_, _^_, _≤_}
 use native.Mathlib.Omega.{arith}
-use lib.ListN.{take}
 use lib.Pow.{pow-add, pow-pos, shl-exact}
-use Rattle.lists.specs.Lists.{all}
-use Rattle.codes.specs.Codes.{from, lawful}
+use Rattle.codes.specs.Codes.{lawful}
 use Rattle.codes.proofs.table.keeps_rules.Statement.{statement}
 use Rattle.codes.proofs.table.keeps_rules.Tie as tie
 

@@ -142,7 +142,7 @@ cost-requires : tie.Need-cost-requires Inv-loop μ-loop
 cost-requires c κs = start (c .before) .pre .1
 
 allowed-requires : tie.Need-allowed-requires Inv-loop μ-loop
-allowed-requires c κs = let s = start (c .before .before) in (s .pre .0 .span, bounds s .memory-most)
+allowed-requires c κs = tt
 
 loop-holds : tie.Need-loop-holds Inv-loop μ-loop
 loop-holds c = (omega arith, refl)

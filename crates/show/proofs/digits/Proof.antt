@@ -1,9 +1,9 @@
--- `print::digits` is safe and ends: the place is at most the length, and what is left of the length falls. Assumes nothing.
+-- `digits` is safe and ends: the place is at most the length, and what is left of the length falls. Assumes nothing.
 use borrow.Author.Needs.{needs}
 use Prim.Native.Nat.{_≤_, _-_}
 use lib.ListN.{length}
-use Rattle.cases.proofs.print.digits.Statement.{statement}
-use Rattle.cases.proofs.print.digits.Tie as tie
+use Rattle.show.proofs.digits.Statement.{statement}
+use Rattle.show.proofs.digits.Tie as tie
 
 abbrev Inv-loop : tie.InvT-loop
 Inv-loop bytes group left₀ i₀ t5 t6 left i = i ≤ length bytes

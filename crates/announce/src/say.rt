@@ -1,0 +1,95 @@
+// What the program says.
+use codes::table::Code;
+use search::decoder::Decoded;
+use show::count;
+use show::digits;
+use show::text;
+use show::word;
+
+pub fn block(code: Code, bits: usize, symbols: usize) {
+    let generators = code.generators;
+    text(b"code ");
+    word(generators[0]);
+    text(b", ");
+    word(generators[1]);
+    text(b" of memory ");
+    word(code.memory);
+    text(b"; ");
+    count(bits);
+    text(b" bits in ");
+    count(symbols);
+    text(b" symbols\n");
+}
+
+// The message by its bits and, eight bits a letter, as text.
+pub fn message(bits: &[u8]) {
+    text(b"message ");
+    digits(bits, 8);
+    text(b"\nas text ");
+    letters(bits);
+    text(b"\n");
+}
+
+fn letters(bits: &[u8]) {
+    let mut i = 0usize;
+    let mut letter = 0u32;
+    let mut filled = 0u32;
+    while i < bits.len() {
+        letter = with_bit(letter, bits[i]);
+        filled += 1;
+        if filled == 8 {
+            character(letter);
+            filled = 0;
+        }
+        i += 1;
+    }
+}
+
+// The last seven bits and one more.
+fn with_bit(letter: u32, bit: u8) -> u32 {
+    (letter % 128) * 2 + (bit % 2) as u32
+}
+
+// A letter, digit or mark; anything else is a '?'.
+fn character(letter: u32) {
+    let mut shown = b'?';
+    if 31 < letter {
+        if letter < 127 {
+            shown = letter as u8;
+        }
+    }
+    let one = [shown];
+    text(&one);
+}
+
+pub fn found(metric: u32, steps: u32) {
+    text(b"metric ");
+    word(metric);
+    text(b", and no other message has as little; ");
+    word(steps);
+    text(b" nodes expanded\n");
+}
+
+pub fn refusal(number: u32) {
+    text(b"refused ");
+    word(number);
+    text(b"\n");
+}
+
+// A refusal by its number, and what it means.
+pub fn refused(answer: Decoded) {
+    match answer {
+        Decoded::Done {
+            metric: _,
+            steps: _,
+        } => text(b"done\n"),
+        Decoded::BadCode => text(b"refused 1: no house code has this row\n"),
+        Decoded::BadSize => text(b"refused 2: L or the number of symbols is not as stated\n"),
+        Decoded::NoRoom { steps: _ } => text(b"refused 3: the search needs more room\n"),
+        Decoded::NoAllowance { steps: _ } => text(b"refused 4: the allowance is spent\n"),
+        Decoded::Tied {
+            metric: _,
+            steps: _,
+        } => text(b"refused 5: two messages are as near as each other\n"),
+    }
+}

@@ -1,0 +1,6 @@
+pub mod Limits
+pub mod Rounding
+pub mod Symbols
+pub mod Reports
+pub mod Answers
+pub mod Convertible

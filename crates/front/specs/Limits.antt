@@ -1,0 +1,10 @@
+-- The limits of document 01, 'From readings to symbols', by name. The code has each once more, as a const.
+use Prim.Native.Nat.{ℕ}
+
+-- "A block has 1 to 864 readings."
+abbrev pub mostReadings : ℕ
+mostReadings = 864
+
+-- "held within -127 to 127"
+abbrev pub furthest : ℕ
+furthest = 127

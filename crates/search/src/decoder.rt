@@ -1,0 +1,124 @@
+// The decoder.
+use crate::run::Reached;
+use crate::run::run;
+use crate::trace::trace;
+use blocks::view::see;
+use codes::table::Code;
+use codes::table::keeps_rules;
+ghost use mathlib.Core.Path.{_≡_};
+ghost use mathlib.Core.Bool.{true};
+ghost use Rattle.codes.specs.Codes.{lawful};
+ghost use Rattle.trellis.specs.Verdict.{verdict};
+ghost use Rattle.search.specs.Decoding.{told, sizesFit, given, decoding};
+ghost use Rattle.search.specs.Work.{trellisIn, Sized, Lent};
+
+const SHORTEST_MESSAGE: usize = 1;
+
+const LONGEST_MESSAGE: usize = 200;
+
+const LONGEST_BLOCK: usize = 864;
+
+const LARGEST_ROOM: usize = 4096;
+
+const WORDS_PER_NODE: usize = 3;
+
+// What `decode` answers: the message is written, with its metric and the steps that it took; or a refusal, in the order of the paper's
+// numbers 1 to 5, with the steps that were done, and with the least metric where it is known.
+pub enum Decoded {
+    Done { metric: u32, steps: u32 },
+    BadCode,
+    BadSize,
+    NoRoom { steps: u32 },
+    NoAllowance { steps: u32 },
+    Tied { metric: u32, steps: u32 },
+}
+
+// Decodes a block: the message that alone has the least metric, or the refusal that node order says. On a refusal the message buffer
+// is untouched. The working memory, three words a node, may be overwritten; no answer depends on what it held.
+pub fn decode(
+    code: Code,
+    length: usize,
+    symbols: &[i8],
+    room: usize,
+    allowance: u32,
+    work: &mut [u64],
+    message: &mut [u8],
+) -> Decoded
+    ensures { λ r. do ⌜ told r (now (message .exit)) ≡ decoding code length (now (symbols .entry)) room allowance (← ⟦work.len()⟧ .entry) (now (message .entry)) ⌝ }
+{
+    if !keeps_rules(code) {
+        return Decoded::BadCode;
+    }
+    if !sizes_fit(code, length, symbols.len(), room, work.len(), message.len()) {
+        return Decoded::BadSize;
+    }
+    let mut seen = [0u16; LONGEST_BLOCK];
+    see(symbols, &mut seen);
+    let count = symbols.len();
+    search(code, length, &seen[..count], room, allowance, work, message)
+}
+
+// Whether all lengths are as stated. Nothing is multiplied before it is tested.
+fn sizes_fit(
+    code: Code,
+    length: usize,
+    symbols: usize,
+    room: usize,
+    words: usize,
+    message: usize,
+) -> bool
+    requires { ⌜ lawful code ≡ true ⌝ }
+    ensures { λ r. ⌜ r ≡ sizesFit code length symbols room words message ⌝ }
+{
+    if length < SHORTEST_MESSAGE {
+        return false;
+    }
+    if LONGEST_MESSAGE < length {
+        return false;
+    }
+    if LARGEST_ROOM < room {
+        return false;
+    }
+    if symbols != (code.outputs as usize) * (length + code.memory as usize) {
+        return false;
+    }
+    if message < length {
+        return false;
+    }
+    WORDS_PER_NODE * room <= words
+}
+
+// The search over the block as it was seen, and its answer.
+fn search(
+    code: Code,
+    length: usize,
+    seen: &[u16],
+    room: usize,
+    allowance: u32,
+    work: &mut [u64],
+    message: &mut [u8],
+) -> Decoded
+    requires { ⌜ Sized code length (now seen) ⌝ ∗ ⌜ Lent length room (now work) (now message) ⌝ }
+    ensures { λ r. ⌜ told r (now (message .exit)) ≡ given (verdict (trellisIn code length (now (seen .entry))) room allowance) (now (message .entry)) ⌝ }
+{
+    let halt = run(code, length as u64, seen, room, allowance, work);
+    let reached = halt.reached;
+    match reached {
+        Reached::Full(steps) => Decoded::NoRoom { steps },
+        Reached::Spent(steps) => Decoded::NoAllowance { steps },
+        Reached::Terminal {
+            metric,
+            steps,
+            count,
+            row,
+        } => {
+            let metric = metric as u32;
+            if 1 < count {
+                return Decoded::Tied { metric, steps };
+            }
+            let last = (length as u64) + code.memory as u64;
+            trace(work, halt.rows, last, row, length as u64, message);
+            Decoded::Done { metric, steps }
+        }
+    }
+}
