@@ -2,4 +2,4 @@
 pub mod decoder;
 mod run;
 mod step;
-mod trace;
+pub mod trace;

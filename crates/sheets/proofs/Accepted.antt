@@ -21,7 +21,8 @@ use Rattle.blocks.specs.Symbols.{view}
 use Rattle.blocks.specs.Blocks.{trellisOf}
 use Rattle.blocks.proofs.Closing.{trellis-lawful}
 use Rattle.sheets.specs.Bytes.{series, bitAt, sheetRead}
-use Rattle.sheets.specs.Checking.{formed, carried, Checking, handed, sizesFit, checking}
+use Rattle.sheets.specs.Checking.{formed, carried, Checking, handed, told, sizesFit, checking}
+use Rattle.sheets.specs.declared.check.Checked.the-variants.{Accepted}
 use Rattle.sheets.proofs.Series.{length-series}
 use Rattle.sheets.proofs.Rows.{checking-code, checking-size, checking-form, checking-claim, checking-accepted}
 
@@ -85,3 +86,10 @@ module _ (c : Code) (l : ℕ) (symbols : List ℤ) (bytes message : List ℕ) wh
     where
       front : take l (sheetRead l bytes .message ++ drop l message) ≡ sheetRead l bytes .message
       front = take-at (sheetRead l bytes .message) (drop l message) l (length-series l (bitAt bytes))
+
+  -- The same of the program's answer: where it is `Accepted m`, m is the least metric and the L bytes written are its only message.
+  pub accepted-alone : (m : ℕ) (exit : List ℕ) → told (Accepted m) exit ≡ answer → Alone t m (take l exit)
+  unfolding told
+  accepted-alone m exit e =
+      subst₂ (Alone t) (ap (λ (x : Checking). x .metric) (sym e)) (ap (λ (x : Checking). take l (x .message)) (sym e))
+      (check-sound (ap (λ (x : Checking). x .number) (sym e)))

@@ -4,6 +4,8 @@ use crate::bytes::number32;
 use crate::claim::carries;
 use crate::entries::inside;
 use crate::entries::rise;
+use crate::form::COUNT_PLACE;
+use crate::form::METRIC_PLACE;
 use crate::form::bit;
 use crate::form::entries_place;
 use crate::form::framed;
@@ -50,7 +52,7 @@ pub fn check(code: Code, length: usize, symbols: &[i8], sheet: &[u8], message: &
         return Checked::NotCarried;
     }
     take_message(length, sheet, &mut *message);
-    Checked::Accepted(number32(sheet, 8))
+    Checked::Accepted(number32(sheet, METRIC_PLACE))
 }
 
 // Whether L, the block and the message buffer have the sizes of a code.
@@ -78,7 +80,7 @@ fn formed(code: Code, length: usize, sheet: &[u8]) -> bool
     if !framed(length, sheet) {
         return false;
     }
-    let count = number16(sheet, 12);
+    let count = number16(sheet, COUNT_PLACE);
     if count < 1 {
         return false;
     }

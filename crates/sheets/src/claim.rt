@@ -4,6 +4,7 @@ use crate::entries::cost;
 use crate::entries::level;
 use crate::entries::listed;
 use crate::entries::state;
+use crate::form::METRIC_PLACE;
 use crate::form::entries_place;
 use crate::path::path_listed;
 use crate::path::walk;
@@ -131,7 +132,7 @@ fn tests_pass(
     if !path_listed(entries, states, metrics, top) {
         return false;
     }
-    let metric = number32(sheet, 8) as u64;
+    let metric = number32(sheet, METRIC_PLACE) as u64;
     if metrics[top] != metric {
         return false;
     }

@@ -7,17 +7,25 @@ ghost use lib.ListN.{length};
 ghost use Rattle.sheets.specs.Bytes.{messageSize, messagePlace, entriesPlace, bitAt};
 ghost use Rattle.sheets.specs.Checking.{framed};
 
-const KIND: u16 = 257;
+pub const KIND: u16 = 257;
 
-// The bytes in front of the message.
-const HEAD: usize = 14;
+// The places of the numbers in front, and of the message behind them.
+pub const KIND_PLACE: usize = 4;
+
+pub const LENGTH_PLACE: usize = 6;
+
+pub const METRIC_PLACE: usize = 8;
+
+pub const COUNT_PLACE: usize = 12;
+
+pub const MESSAGE_PLACE: usize = 14;
 
 // The place of the first entry, behind a message of so many bits.
 pub fn entries_place(length: usize) -> usize
     requires { ⌜ length ≤ 200 ⌝ }
     ensures { λ r. ⌜ r ≡ entriesPlace length ⌝ }
 {
-    HEAD + (length + 7) / 8
+    MESSAGE_PLACE + (length + 7) / 8
 }
 
 // Whether the bytes are those of a sheet for messages of so many bits: all there, none left over, with the right numbers in front and
@@ -31,19 +39,19 @@ pub fn framed(length: usize, sheet: &[u8]) -> bool
     if size < place {
         return false;
     }
-    if size != place + 8 * number16(sheet, 12) as usize {
+    if size != place + 8 * number16(sheet, COUNT_PLACE) as usize {
         return false;
     }
     if number32(sheet, 0) as usize != size - 4 {
         return false;
     }
-    if number16(sheet, 4) != KIND {
+    if number16(sheet, KIND_PLACE) != KIND {
         return false;
     }
-    if number16(sheet, 6) as usize != length {
+    if number16(sheet, LENGTH_PLACE) as usize != length {
         return false;
     }
-    let unused = 8 * (place - HEAD) - length;
+    let unused = 8 * (place - MESSAGE_PLACE) - length;
     (sheet[place - 1] as u32) % (1u32 << unused) == 0
 }
 
@@ -52,6 +60,6 @@ pub fn bit(sheet: &[u8], i: usize) -> u8
     requires { ⌜ (i ≤ 200) × (messagePlace + messageSize (i + 1) ≤ length (now sheet)) ⌝ }
     ensures { λ r. ⌜ r ≡ bitAt (now (sheet .entry)) i ⌝ }
 {
-    let byte = sheet[HEAD + i / 8];
+    let byte = sheet[MESSAGE_PLACE + i / 8];
     (byte >> (7 - i % 8)) % 2
 }

@@ -1,6 +1,12 @@
 // A sheet put into a buffer: the numbers in front, the message, the entries one by one.
 use crate::bytes::put16;
 use crate::bytes::put32;
+use crate::form::COUNT_PLACE;
+use crate::form::KIND;
+use crate::form::KIND_PLACE;
+use crate::form::LENGTH_PLACE;
+use crate::form::MESSAGE_PLACE;
+use crate::form::METRIC_PLACE;
 use crate::form::entries_place;
 ghost use mathlib.Core.Path.{_≡_};
 ghost use mathlib.Core.Bool.{true};
@@ -12,8 +18,6 @@ ghost use Rattle.codes.specs.Encoding.{isBit};
 ghost use Rattle.trellis.specs.Verdict.{entry};
 ghost use Rattle.sheets.specs.Bytes.{messagePlace, entriesPlace, octet, messageBytes, entryBytes};
 ghost use Rattle.sheets.specs.Steps.{sheetSize, headBytes, Puttable};
-
-const KIND: u16 = 257;
 
 // The size of a sheet for messages of so many bits, with so many entries.
 pub fn sheet_size(length: usize, count: usize) -> usize
@@ -30,10 +34,10 @@ pub fn put_head(out: &mut [u8], length: usize, metric: u32, count: usize)
 {
     let size = sheet_size(length, count);
     put32(&mut *out, 0, (size - 4) as u32);
-    put16(&mut *out, 4, KIND);
-    put16(&mut *out, 6, length as u16);
-    put32(&mut *out, 8, metric);
-    put16(&mut *out, 12, count as u16);
+    put16(&mut *out, KIND_PLACE, KIND);
+    put16(&mut *out, LENGTH_PLACE, length as u16);
+    put32(&mut *out, METRIC_PLACE, metric);
+    put16(&mut *out, COUNT_PLACE, count as u16);
 }
 
 // Puts the message, eight bits a byte.
@@ -44,7 +48,7 @@ pub fn put_message(out: &mut [u8], message: &[u8])
     let size = (message.len() + 7) / 8;
     let mut j = 0usize;
     while j < size {
-        out[14 + j] = octet(message, j);
+        out[MESSAGE_PLACE + j] = octet(message, j);
         j += 1;
     }
 }

@@ -1,0 +1,3 @@
+pub mod Putting
+pub mod Answers
+pub mod Sheetings

@@ -1,0 +1,3 @@
+// The decoder that also writes the honest sheet of what it answers.
+mod entries;
+pub mod writer;
