@@ -6,6 +6,7 @@ use Rattle.codes.specs.Encoding.{Encoding}
 use Rattle.codes.specs.declared.table.Code as codes
 use Rattle.search.specs.Decoding.{Decoding}
 use Rattle.sheets.specs.Checking.{Checking}
+use Rattle.writer.specs.Sheeting.{Sheeting}
 use Rattle.plumtassel.specs.declared.Code.{Code}
 use Rattle.plumtassel.specs.declared.Answer.{Answer}
 
@@ -27,6 +28,10 @@ encoded e = (record { number = e .number; metric = 0; steps = 0; length = e .sym
 -- what the decoder hands back, and the message buffer
 abbrev pub decoded : Decoding → Answer × List ℕ
 decoded d = (record { number = d .number; metric = d .metric; steps = d .steps; length = 0 }, d .message)
+
+-- what the decoder that also writes a sheet hands back, and both buffers: the length is the sheet's, or with 9 the size needed
+abbrev pub sheeted : Sheeting → Answer × List ℕ × List ℕ
+sheeted s = (record { number = s .number; metric = s .metric; steps = s .steps; length = s .size }, s .message, s .sheet)
 
 -- what the check hands back, and the message buffer
 abbrev pub checked : Checking → Answer × List ℕ

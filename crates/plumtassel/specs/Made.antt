@@ -14,6 +14,8 @@ use Rattle.search.specs.declared.decoder.Decoded.{Decoded}
 use Rattle.search.specs.declared.decoder.Decoded.the-variants as decoded
 use Rattle.sheets.specs.declared.check.Checked.{Checked}
 use Rattle.sheets.specs.declared.check.Checked.the-variants as checked
+use Rattle.writer.specs.declared.writer.DecodedSheet.{DecodedSheet}
+use Rattle.writer.specs.declared.writer.DecodedSheet.the-variants as sheeted
 use Rattle.plumtassel.specs.declared.Answer.{Answer}
 use Rattle.plumtassel.specs.declared.FrontEnd.{FrontEnd}
 use Rattle.plumtassel.specs.declared.Report.{Report}
@@ -22,6 +24,10 @@ use Rattle.plumtassel.specs.Face.{refusal}
 -- 'A block has N = n(L+m) symbols, at most 864.'
 abbrev pub longestBlock : ℕ
 longestBlock = 864
+
+-- a sheet's head, the bits of 200 in 25 bytes, and 4,096 entries of 8 bytes
+abbrev pub longestSheet : ℕ
+longestSheet = 32807
 
 abbrev pub encoderAnswer : Encoded → Answer
 encoderAnswer (encoded.Done n) = record { number = 0; metric = 0; steps = 0; length = n }
@@ -39,6 +45,15 @@ decoderAnswer decoded.BadSize = refusal 2
 decoderAnswer (decoded.NoRoom steps) = searchAnswer 3 0 steps
 decoderAnswer (decoded.NoAllowance steps) = searchAnswer 4 0 steps
 decoderAnswer (decoded.Tied metric steps) = searchAnswer 5 metric steps
+
+abbrev pub sheetAnswer : DecodedSheet → Answer
+sheetAnswer (sheeted.Done metric steps bytes) = record { number = 0; metric = metric; steps = steps; length = bytes }
+sheetAnswer sheeted.BadCode = refusal 1
+sheetAnswer sheeted.BadSize = refusal 2
+sheetAnswer (sheeted.NoRoom steps) = searchAnswer 3 0 steps
+sheetAnswer (sheeted.NoAllowance steps) = searchAnswer 4 0 steps
+sheetAnswer (sheeted.Tied metric steps) = searchAnswer 5 metric steps
+sheetAnswer (sheeted.NoSheetRoom bytes) = record { number = 9; metric = 0; steps = 0; length = bytes }
 
 abbrev pub checkAnswer : Checked → Answer
 checkAnswer (checked.Accepted metric) = searchAnswer 0 metric 0

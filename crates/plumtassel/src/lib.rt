@@ -9,6 +9,8 @@ use search::decoder::Decoded;
 use search::decoder::decode;
 use sheets::check::Checked;
 use sheets::check::check;
+use writer::writer::DecodedSheet;
+use writer::writer::decode_sheet;
 ghost use mathlib.Core.Path.{_≡_};
 ghost use Prim.Native.Nat.{_≤_};
 ghost use Rattle.codes.specs.Codes.{houseCode};
@@ -16,9 +18,10 @@ ghost use Rattle.codes.specs.Encoding.{encoding};
 ghost use Rattle.front.specs.Limits.{mostReadings};
 ghost use Rattle.search.specs.Decoding.{decoding};
 ghost use Rattle.sheets.specs.Checking.{checking};
-ghost use Rattle.plumtassel.specs.Face.{faceCode, codeOf, refusal, encoded, decoded, checked};
+ghost use Rattle.writer.specs.Sheeting.{sheeting};
+ghost use Rattle.plumtassel.specs.Face.{faceCode, codeOf, refusal, encoded, decoded, sheeted, checked};
 ghost use Rattle.plumtassel.specs.Fronts.{fronting, reported};
-ghost use Rattle.plumtassel.specs.Made.{longestBlock, encoderAnswer, searchAnswer, decoderAnswer, checkAnswer, choice, refusedReading, frontReport};
+ghost use Rattle.plumtassel.specs.Made.{longestBlock, longestSheet, encoderAnswer, searchAnswer, decoderAnswer, sheetAnswer, checkAnswer, choice, refusedReading, frontReport};
 
 // n outputs, memory m, and room for four generators, of which the first n count.
 #[repr(C)]
@@ -106,6 +109,33 @@ pub extern "C" fn plumtassel_decode(
     decoder_answer(answer)
 }
 
+// The same, and the honest sheet of the answer.
+#[no_mangle]
+pub extern "C" fn plumtassel_decode_sheet(
+    code: Code,
+    length: usize,
+    symbols: &[i8],
+    room: usize,
+    allowance: u32,
+    work: &mut [u64],
+    message: &mut [u8],
+    sheet: &mut [u8],
+) -> Answer
+    ensures { λ r. do ⌜ (r, now (message .exit), now (sheet .exit)) ≡ sheeted (sheeting (codeOf code) length (now (symbols .entry)) room allowance (← ⟦work.len()⟧ .entry) (now (message .entry)) (now (sheet .entry))) ⌝ }
+{
+    let answer = decode_sheet(
+        opened(code),
+        length,
+        symbols,
+        room,
+        allowance,
+        work,
+        message,
+        sheet,
+    );
+    sheet_answer(answer)
+}
+
 // Checks a sheet for a block: accepted, its message is the only one of least metric.
 #[no_mangle]
 pub extern "C" fn plumtassel_check(
@@ -175,6 +205,36 @@ fn decoder_answer(answer: Decoded) -> Answer
         Decoded::NoRoom { steps } => answered(3, 0, steps),
         Decoded::NoAllowance { steps } => answered(4, 0, steps),
         Decoded::Tied { metric, steps } => answered(5, metric, steps),
+    }
+}
+
+// The answer of `decode_sheet` as the caller takes it.
+fn sheet_answer(answer: DecodedSheet) -> Answer
+    requires { ⌜ sheetAnswer answer .length ≤ longestSheet ⌝ }
+    ensures { λ r. ⌜ r ≡ sheetAnswer answer ⌝ }
+{
+    match answer {
+        DecodedSheet::Done {
+            metric,
+            steps,
+            bytes,
+        } => Answer {
+            number: 0,
+            metric,
+            steps,
+            length: bytes as u32,
+        },
+        DecodedSheet::BadCode => refused(1),
+        DecodedSheet::BadSize => refused(2),
+        DecodedSheet::NoRoom { steps } => answered(3, 0, steps),
+        DecodedSheet::NoAllowance { steps } => answered(4, 0, steps),
+        DecodedSheet::Tied { metric, steps } => answered(5, metric, steps),
+        DecodedSheet::NoSheetRoom { bytes } => Answer {
+            number: 9,
+            metric: 0,
+            steps: 0,
+            length: bytes as u32,
+        },
     }
 }
 
