@@ -13,6 +13,7 @@ use crate::record::OUTPUT;
 use crate::record::OUTPUTS;
 use crate::record::PAYLOAD;
 use crate::record::ROOM;
+use crate::record::SHEET;
 use crate::record::SHEET_COUNT;
 use crate::record::THRESHOLD;
 use crate::record::WORDS;
@@ -25,6 +26,7 @@ use plumtassel::Code;
 use plumtassel::FrontEnd;
 use plumtassel::plumtassel_check;
 use plumtassel::plumtassel_decode;
+use plumtassel::plumtassel_decode_sheet;
 use plumtassel::plumtassel_encode;
 use plumtassel::plumtassel_front;
 
@@ -37,6 +39,8 @@ const MOST_SYMBOLS: usize = 1024;
 const MOST_MESSAGE: usize = 256;
 
 const MOST_WORDS: usize = 8192;
+
+const MOST_SHEET: usize = 32768;
 
 // ---- kind 1
 
@@ -73,7 +77,7 @@ fn code(record: &[u8]) -> Code {
     }
 }
 
-// ---- kinds 2 and 4
+// ---- kinds 2 to 4
 
 pub fn of_block(record: &[u8], kind: u32) -> bool {
     let count = size(record, COUNT);
@@ -86,10 +90,13 @@ pub fn of_block(record: &[u8], kind: u32) -> bool {
     }
     let mut received = [0i8; MOST_SYMBOLS];
     symbols(&record[PAYLOAD..end], &mut received);
-    if kind == 4 {
-        return check(record, &received[..count], &record[end..]);
+    if kind == 2 {
+        return decode(record, &received[..count]);
     }
-    decode(record, &received[..count])
+    if kind == 3 {
+        return decode_sheet(record, &received[..count]);
+    }
+    check(record, &received[..count], &record[end..])
 }
 
 fn decode(record: &[u8], received: &[i8]) -> bool {
@@ -118,6 +125,53 @@ fn decode_into(record: &[u8], received: &[i8], work: &mut [u64], message: &mut [
         &mut *message,
     );
     lines::answer(2, told, message);
+}
+
+fn decode_sheet(record: &[u8], received: &[i8]) -> bool {
+    let words = size(record, WORDS);
+    let length = size(record, OUTPUT);
+    let sheet_length = size(record, SHEET);
+    if MOST_WORDS < words {
+        return false;
+    }
+    if MOST_MESSAGE < length {
+        return false;
+    }
+    if MOST_SHEET < sheet_length {
+        return false;
+    }
+    let mut work = [0u64; MOST_WORDS];
+    let mut message = [UNTOUCHED; MOST_MESSAGE];
+    let mut sheet = [UNTOUCHED; MOST_SHEET];
+    decode_sheet_into(
+        record,
+        received,
+        &mut work[..words],
+        &mut message[..length],
+        &mut sheet[..sheet_length],
+    );
+    true
+}
+
+fn decode_sheet_into(
+    record: &[u8],
+    received: &[i8],
+    work: &mut [u64],
+    message: &mut [u8],
+    sheet: &mut [u8],
+) {
+    let told = plumtassel_decode_sheet(
+        code(record),
+        size(record, LENGTH),
+        received,
+        size(record, ROOM),
+        number(record, ALLOWANCE),
+        work,
+        &mut *message,
+        &mut *sheet,
+    );
+    lines::answer(3, told, message);
+    lines::written(sheet);
 }
 
 fn check(record: &[u8], received: &[i8], sheet: &[u8]) -> bool {

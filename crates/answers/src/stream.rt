@@ -52,7 +52,7 @@ fn called(record: &[u8]) -> bool {
     let kind = number(record, KIND);
     match kind {
         1 => calls::encode(record),
-        2 | 4 => calls::of_block(record, kind),
+        2 | 3 | 4 => calls::of_block(record, kind),
         5 => calls::front(record),
         _ => false,
     }

@@ -35,8 +35,32 @@ symbols-requires c κs = search needs
 array-share-prefix-received : tie.Need-array-share-prefix-received
 array-share-prefix-received c = search needs
 
+slice-aggregate-decode : tie.Need-slice-aggregate-decode
+slice-aggregate-decode c = sym (length-take-le _ _ (array-share-prefix-received (c .before)))
+
+decode-requires : tie.Need-decode-requires
+decode-requires c κs = search needs
+
+returns-3 : tie.Need-returns-3
+returns-3 c = search needs
+
+array-share-prefix-received-2 : tie.Need-array-share-prefix-received-2
+array-share-prefix-received-2 c = search needs
+
+slice-aggregate-decode-sheet : tie.Need-slice-aggregate-decode-sheet
+slice-aggregate-decode-sheet c = sym (length-take-le _ _ (array-share-prefix-received-2 (c .before)))
+
+decode-sheet-requires : tie.Need-decode-sheet-requires
+decode-sheet-requires c κs = search needs
+
+returns-4 : tie.Need-returns-4
+returns-4 c = search needs
+
+array-share-prefix-received-3 : tie.Need-array-share-prefix-received-3
+array-share-prefix-received-3 c = search needs
+
 slice-aggregate-check : tie.Need-slice-aggregate-check
-slice-aggregate-check c = sym (length-take-le _ _ (array-share-prefix-received (c .before)))
+slice-aggregate-check c = sym (length-take-le _ _ (array-share-prefix-received-3 (c .before)))
 
 sub-check : tie.Need-sub-check
 sub-check c = search needs
@@ -50,20 +74,8 @@ part-check-end c = search needs
 check-requires : tie.Need-check-requires
 check-requires c κs = search needs
 
-returns-3 : tie.Need-returns-3
-returns-3 c = search needs
-
-array-share-prefix-received-2 : tie.Need-array-share-prefix-received-2
-array-share-prefix-received-2 c = search needs
-
-slice-aggregate-decode : tie.Need-slice-aggregate-decode
-slice-aggregate-decode c = sym (length-take-le _ _ (array-share-prefix-received-2 (c .before)))
-
-decode-requires : tie.Need-decode-requires
-decode-requires c κs = search needs
-
-returns-4 : tie.Need-returns-4
-returns-4 c = search needs
+returns-5 : tie.Need-returns-5
+returns-5 c = search needs
 
 pub of-block-spec : {M : Type 1} → statement M
 of-block-spec =
@@ -79,13 +91,17 @@ of-block-spec =
     slice-aggregate-symbols
     symbols-requires
     array-share-prefix-received
+    slice-aggregate-decode
+    decode-requires
+    returns-3
+    array-share-prefix-received-2
+    slice-aggregate-decode-sheet
+    decode-sheet-requires
+    returns-4
+    array-share-prefix-received-3
     slice-aggregate-check
     sub-check
     part-check-start
     part-check-end
     check-requires
-    returns-3
-    array-share-prefix-received-2
-    slice-aggregate-decode
-    decode-requires
-    returns-4)
+    returns-5)
