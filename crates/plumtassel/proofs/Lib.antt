@@ -1,0 +1,6 @@
+pub mod Encoder
+pub mod Decoder
+pub mod Ranks
+pub mod Sheet
+pub mod Check
+pub mod Front

@@ -1,0 +1,3 @@
+pub mod Face
+pub mod Fronts
+pub mod Made

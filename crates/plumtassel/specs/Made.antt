@@ -1,0 +1,80 @@
+-- What the helpers of the face make of each answer: the step between an operation's enum and the caller's struct. Not for the reader: no exported
+-- function's contract cites it. Assumes nothing.
+use mathlib.Core.Bool.{cond}
+use Prim.Native.Nat.{ℕ}
+use lib.Dec.{eqb}
+use Rattle.codes.specs.declared.encoder.Encoded.{Encoded}
+use Rattle.codes.specs.declared.encoder.Encoded.the-variants as encoded
+use Rattle.front.specs.Symbols.{zero}
+use Rattle.front.specs.declared.FrontEnd as front
+use Rattle.front.specs.declared.FrontEnd.the-variants.{Gain, Offset, Threshold}
+use Rattle.front.specs.declared.Fronted.{Fronted}
+use Rattle.front.specs.declared.Fronted.the-variants as fronted
+use Rattle.search.specs.declared.decoder.Decoded.{Decoded}
+use Rattle.search.specs.declared.decoder.Decoded.the-variants as decoded
+use Rattle.sheets.specs.declared.check.Checked.{Checked}
+use Rattle.sheets.specs.declared.check.Checked.the-variants as checked
+use Rattle.writer.specs.declared.writer.DecodedSheet.{DecodedSheet}
+use Rattle.writer.specs.declared.writer.DecodedSheet.the-variants as sheeted
+use Rattle.plumtassel.specs.declared.Answer.{Answer}
+use Rattle.plumtassel.specs.declared.FrontEnd.{FrontEnd}
+use Rattle.plumtassel.specs.declared.Report.{Report}
+use Rattle.plumtassel.specs.Face.{refusal}
+
+-- 'A block has N = n(L+m) symbols, at most 864.'
+abbrev pub longestBlock : ℕ
+longestBlock = 864
+
+-- a sheet's head, the bits of 200 in 25 bytes, and 4,096 entries of 8 bytes
+abbrev pub longestSheet : ℕ
+longestSheet = 32807
+
+abbrev pub encoderAnswer : Encoded → Answer
+encoderAnswer (encoded.Done n) = record { number = 0; metric = 0; steps = 0; length = n }
+encoderAnswer encoded.BadCode = refusal 1
+encoderAnswer encoded.BadSize = refusal 2
+encoderAnswer encoded.Malformed = refusal 6
+
+abbrev pub searchAnswer : ℕ → ℕ → ℕ → Answer
+searchAnswer number metric steps = record { number = number; metric = metric; steps = steps; length = 0 }
+
+abbrev pub decoderAnswer : Decoded → Answer
+decoderAnswer (decoded.Done metric steps) = searchAnswer 0 metric steps
+decoderAnswer decoded.BadCode = refusal 1
+decoderAnswer decoded.BadSize = refusal 2
+decoderAnswer (decoded.NoRoom steps) = searchAnswer 3 0 steps
+decoderAnswer (decoded.NoAllowance steps) = searchAnswer 4 0 steps
+decoderAnswer (decoded.Tied metric steps) = searchAnswer 5 metric steps
+
+abbrev pub sheetAnswer : DecodedSheet → Answer
+sheetAnswer (sheeted.Done metric steps bytes) = record { number = 0; metric = metric; steps = steps; length = bytes }
+sheetAnswer sheeted.BadCode = refusal 1
+sheetAnswer sheeted.BadSize = refusal 2
+sheetAnswer (sheeted.NoRoom steps) = searchAnswer 3 0 steps
+sheetAnswer (sheeted.NoAllowance steps) = searchAnswer 4 0 steps
+sheetAnswer (sheeted.Tied metric steps) = searchAnswer 5 metric steps
+sheetAnswer (sheeted.NoSheetRoom bytes) = record { number = 9; metric = 0; steps = 0; length = bytes }
+
+abbrev pub checkAnswer : Checked → Answer
+checkAnswer (checked.Accepted metric) = searchAnswer 0 metric 0
+checkAnswer checked.BadCode = refusal 1
+checkAnswer checked.BadSize = refusal 2
+checkAnswer checked.Malformed = refusal 6
+checkAnswer checked.NotCarried = refusal 7
+
+-- the front end of a form; a gain of zero stands for a form that there is none of
+unfoldable pub choice : FrontEnd → front.FrontEnd
+choice f =
+    cond (eqb (f .form) 0) (Gain (f .gain))
+    (cond (eqb (f .form) 1) (Offset (f .offset) (f .gain))
+    (cond (eqb (f .form) 2) (Threshold (f .threshold))
+    (Gain zero)))
+
+abbrev pub refusedReading : ℕ → ℕ → Report
+refusedReading number index = record { number = number; count = 0; index = index; lowest = zero; highest = zero }
+
+abbrev pub frontReport : Fronted → Report
+frontReport (fronted.Done count report) = record { number = 0; count = count; index = 0; lowest = report .lowest; highest = report .highest }
+frontReport fronted.Sizes = refusedReading 2 0
+frontReport fronted.Malformed = refusedReading 6 0
+frontReport (fronted.NotFinite index) = refusedReading 8 index
