@@ -1,4 +1,6 @@
 // The encoder.
+use crate::limits::LONGEST_MESSAGE;
+use crate::limits::SHORTEST_MESSAGE;
 use crate::register::Register;
 use crate::register::output_bit;
 use crate::table::Code;
@@ -10,10 +12,6 @@ ghost use lib.Seq.{sets};
 ghost use Rattle.lists.specs.Lists.{all};
 ghost use Rattle.codes.specs.Codes.{branchOutputs, codeword};
 ghost use Rattle.codes.specs.Encoding.{isBit, told, encoding, Encodable};
-
-const SHORTEST_MESSAGE: usize = 1;
-
-const LONGEST_MESSAGE: usize = 200;
 
 // What `encode` answers: the number of symbols written, or a refusal.
 pub enum Encoded {

@@ -1,17 +1,13 @@
 // A code, the rules it must keep, and the four house codes.
+use crate::limits::FEWEST_OUTPUTS;
+use crate::limits::LEAST_MEMORY;
+use crate::limits::MOST_MEMORY;
+use crate::limits::MOST_OUTPUTS;
 ghost use mathlib.Core.Path.{_≡_};
 ghost use Prim.Native.Nat.{_≤_};
 ghost use lib.ListN.{take};
 ghost use Rattle.lists.specs.Lists.{all};
 ghost use Rattle.codes.specs.Codes.{from, lawful, houseCode};
-
-const FEWEST_OUTPUTS: u32 = 2;
-
-const MOST_OUTPUTS: u32 = 4;
-
-const LEAST_MEMORY: u32 = 1;
-
-const MOST_MEMORY: u32 = 16;
 
 // n outputs, memory m, and room for four generators, of which the first n count.
 pub struct Code {

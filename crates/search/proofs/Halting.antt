@@ -9,7 +9,7 @@ use Rattle.codes.specs.declared.table.Code.{Code}
 use Rattle.trellis.specs.Trellis.{Trellis, top}
 use Rattle.trellis.specs.Verdict.{Verdict, answered, verdict}
 use Rattle.trellis.specs.Lawful.{Lawful, messageOf}
-use Rattle.trellis.specs.Search.{Row, Outcome, found, full, spent, Ended, searched, trace, read}
+use Rattle.trellis.specs.Search.{Row, Outcome, found, full, spent, searched, trace, read}
 use Rattle.trellis.proofs.Searched.{searched-verdict, searched-right}
 use Rattle.trellis.proofs.Found.{Right}
 use Rattle.trellis.proofs.Trace.{length-trace}
@@ -21,7 +21,6 @@ use Rattle.search.specs.Limits.{heaviest}
 use Rattle.search.specs.Decoding.{told, given}
 use Rattle.search.specs.Work.{cap, trellisIn, Searchable, outcomeOf, Halts, Traceable, inFront}
 use Rattle.search.specs.Settling.{Refused, Answer, Searches}
-use Rattle.search.specs.declared.decoder.Decoded.{Decoded}
 use Rattle.search.specs.declared.decoder.Decoded.the-variants.{Done, NoRoom, NoAllowance, Tied}
 use Rattle.search.specs.declared.decoder.Settled.{Settled}
 use Rattle.search.specs.declared.run.Halt.{Halt}

@@ -10,7 +10,7 @@ use Rattle.codes.specs.Codes.{lawful}
 use Rattle.codes.specs.declared.table.Code.{Code}
 use Rattle.blocks.specs.Symbols.{Seen, view}
 use Rattle.blocks.specs.Blocks.{trellisOf}
-use Rattle.search.specs.Decoding.{told, sizesFit, handed, decoding}
+use Rattle.search.specs.Decoding.{told, sizesFit, decoding}
 use Rattle.search.specs.Settling.{Refused, Searches, Settles}
 use Rattle.search.specs.declared.decoder.Decoded.the-variants.{BadCode, BadSize}
 use Rattle.search.specs.declared.decoder.Settled.{Settled}

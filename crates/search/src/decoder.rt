@@ -3,6 +3,9 @@ use crate::run::Reached;
 use crate::run::run;
 use crate::trace::trace;
 use blocks::view::see;
+use codes::limits::LONGEST_BLOCK;
+use codes::limits::LONGEST_MESSAGE;
+use codes::limits::SHORTEST_MESSAGE;
 use codes::table::Code;
 use codes::table::keeps_rules;
 ghost use mathlib.Core.Path.{_≡_};
@@ -11,12 +14,6 @@ ghost use Rattle.codes.specs.Codes.{lawful};
 ghost use Rattle.search.specs.Decoding.{told, sizesFit, decoding};
 ghost use Rattle.search.specs.Work.{trellisIn, Sized, Lent};
 ghost use Rattle.search.specs.Settling.{Searches, Settles};
-
-const SHORTEST_MESSAGE: usize = 1;
-
-const LONGEST_MESSAGE: usize = 200;
-
-const LONGEST_BLOCK: usize = 864;
 
 const LARGEST_ROOM: usize = 4096;
 

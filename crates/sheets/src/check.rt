@@ -9,6 +9,8 @@ use crate::form::METRIC_PLACE;
 use crate::form::bit;
 use crate::form::entries_place;
 use crate::form::framed;
+use codes::limits::LONGEST_MESSAGE;
+use codes::limits::SHORTEST_MESSAGE;
 use codes::table::Code;
 use codes::table::keeps_rules;
 ghost use mathlib.Core.Path.{_≡_};
@@ -19,10 +21,6 @@ ghost use Rattle.codes.specs.Codes.{lawful};
 ghost use Rattle.sheets.specs.Bytes.{sheetRead};
 ghost use Rattle.sheets.specs.Checking.{formed, sizesFit, told, checking};
 ghost use Rattle.sheets.specs.Steps.{Askable, Whole, Room};
-
-const SHORTEST_MESSAGE: usize = 1;
-
-const LONGEST_MESSAGE: usize = 200;
 
 const MOST_ENTRIES: u16 = 4096;
 

@@ -12,6 +12,7 @@ use blocks::branches::allowed;
 use blocks::branches::next;
 use blocks::branches::price;
 use blocks::view::see;
+use codes::limits::LONGEST_BLOCK;
 use codes::table::Code;
 ghost use mathlib.Core.Path.{_≡_};
 ghost use mathlib.Core.Bool.{true};
@@ -155,7 +156,7 @@ pub fn carries(code: Code, length: usize, symbols: &[i8], sheet: &[u8]) -> bool
     requires { do ⌜ Checkable code length (← ⟦symbols.len()⟧) (now sheet) ⌝ }
     ensures { λ r. ⌜ r ≡ carried (trellisOf code length (view (now (symbols .entry)))) (sheetRead length (now (sheet .entry))) ⌝ }
 {
-    let mut seen = [0u16; 864];
+    let mut seen = [0u16; LONGEST_BLOCK];
     see(symbols, &mut seen);
     let n = symbols.len();
     holds(code, length, &seen[..n], sheet)

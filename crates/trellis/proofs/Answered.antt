@@ -41,14 +41,14 @@ unfolding leastMetric
 least-below t m = least-le _ (map-in (metricOf t) m)
 
 module _ {t : Trellis} {w : List ℕ} where
-  alone-paid : Alone t w → metricOf t w ≡ leastMetric t
+  pub alone-paid : Alone t w → metricOf t w ≡ leastMetric t
   unfolding leastMetric
   alone-paid a =
       let v = map-out (metricOf t) (messages t) (least-of (map-in (metricOf t) (a .member))) in
       let e : v .source ≡ w = a .only (v .source) (v .member) (omega (arith, v .equal, least-below t (a .member))) in
       ap (metricOf t) (sym e) ∙ sym (v .equal)
 
-  alone-in : Alone t w → leastMessages t ≡ w ∷ []
+  pub alone-in : Alone t w → leastMessages t ≡ w ∷ []
   alone-in a =
       one (leastMessages t) (leastMessages-in (record { member = a .member; paid = alone-paid a }))
       (length-within (leastMessages t) (w ∷ []) (leastMessages-unique t) (λ v m. here (within v (leastMessages-out t m))))

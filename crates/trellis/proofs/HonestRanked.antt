@@ -18,7 +18,7 @@ use Rattle.trellis.specs.Lawful.{Lawful}
 use Rattle.trellis.proofs.Paths.{path-short}
 use Rattle.trellis.proofs.Cost.{cost-computed}
 use Rattle.trellis.proofs.Order.{Earlier, Before, earlier-order, before-out, before-order}
-use Rattle.trellis.proofs.Ranked.{Priced, ranked-in, ranked-out, ranked-sorted}
+use Rattle.trellis.proofs.Ranked.{ranked-in, ranked-out, ranked-sorted}
 use Rattle.trellis.proofs.Messages.{terminal-reached, leastMetric-cost}
 use Rattle.trellis.proofs.MetNodes.{terminal-comes, steps-few}
 use Rattle.trellis.proofs.Honest.{Due, lower, honest-in, honest-out, honest-sorted}

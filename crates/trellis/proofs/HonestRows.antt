@@ -1,21 +1,28 @@
 -- The rows that a search leaves at the terminal, its row closed too, hold the honest sheet: the closed rows' entries are the sheet's,
--- each node once. In which order they come is in Listing. Assumes nothing.
+-- each node once, so there are no more of them than rows. In which order they come is in Listing. Assumes nothing.
 use mathlib.Core.Path.{_≡_, sym, ap, _∙_}
 use mathlib.Core.Logic.{_⊎_, inl, inr}
-use mathlib.Core.List.{List, [], _∷_, _++_}
+use mathlib.Core.List.{List, [], _∷_, _++_, map}
 use mathlib.Core.Bool.{true}
 use Prim.Native.Nat.{ℕ, suc, _≤_, _<_}
 use native.Mathlib.Decide.{ℕ-discrete}
 use native.Mathlib.Omega.{arith}
-use lib.ListN.{length, take}
+use lib.ListN.{length, take, length-take, length-map, length-set}
 use Rattle.lists.specs.Lists.{_∈_}
-use Rattle.lists.proofs.Membership.{here, append-left, append-right, append-out, singleton-out, member-cast}
+use Rattle.lists.proofs.Membership.{here, append-left, append-right, append-out, singleton-out, member-cast, map-in}
+use Rattle.lists.proofs.Unique.{length-within}
+use Rattle.lists.proofs.Sorted.{take-sorted, sorted-unique}
 use Rattle.trellis.specs.Trellis.{Trellis, terminal}
-use Rattle.trellis.specs.Verdict.{Entry, entry, ranked, steps, leastMetric}
+use Rattle.trellis.specs.Verdict.{Entry, entry, before, ranked, steps, met, leastMetric}
 use Rattle.trellis.specs.Sheet.{honest}
 use Rattle.trellis.specs.Lawful.{Lawful}
-use Rattle.trellis.specs.Search.{Row, rowAt, entryAt, nodeAt, costAt, firstOpen, shut, closed, found, Ended, searched}
-use Rattle.trellis.proofs.HonestRanked.{honest-front, front-honest}
+use Rattle.trellis.specs.Search.{Row, noRow, rowAt, entryAt, nodeAt, costAt, firstOpen, shut, closed, found, Ended, searched}
+use Rattle.trellis.proofs.Order.{before-order}
+use Rattle.trellis.proofs.Ranked.{ranked-sorted}
+use Rattle.trellis.proofs.Messages.{terminal-reached}
+use Rattle.trellis.proofs.MetNodes.{met-mono, met-some, steps-few}
+use Rattle.trellis.proofs.Places.{place-in}
+use Rattle.trellis.proofs.HonestRanked.{honest-front, front-honest, length-honest}
 use Rattle.trellis.proofs.Rows.{true-false, Changed, set-changed, First, firstOpen-unique}
 use Rattle.trellis.proofs.Table.{Stored}
 use Rattle.trellis.proofs.Between.{Between, between-next}
@@ -108,3 +115,26 @@ searched-left {t} law cap room allowance one metric done count i = go (searched-
         rw (← r, ← m) (record { within = h; first = firstOpen-unique rows k f; holds = found-holds law M f h q })
     go (out-of-room j rows h k r q e) p = let n : _≡_ {A = ℕ} 0 1 = cc (e, p) in absurd (omega arith)
     go (out-of-steps rows h r e) p = let n : _≡_ {A = ℕ} 0 1 = cc (e, p) in absurd (omega arith)
+
+-- ---- how many
+
+-- each entry has a row of its own
+pub length-holds : {t : Trellis} → Lawful t → {rows : List Row} → Holds (honest t (leastMetric t)) rows → suc (steps t) ≤ length rows
+length-holds {t} law {rows} H =
+    let front : List Entry = take (suc (steps t)) (ranked t) in
+    let entries : List Entry = map (λ r. r .entry) rows in
+    let n : length front ≤ length entries =
+    length-within front entries (sorted-unique before before-order front (take-sorted before (suc (steps t)) (ranked t) (ranked-sorted t)))
+    (λ e k. let s = H .stored e (front-honest law e k) in member-cast (sym (s .equal)) (map-in (λ (r : Row). r .entry) (place-in noRow rows (s .row) (s .within)))) in
+    omega (arith, length-take (suc (steps t)) (ranked t), steps-few t (terminal-reached law), length-map rows (λ (r : Row). r .entry))
+
+-- so where a decode answers, the honest sheet has no more entries than there is room
+pub length-answered : {t : Trellis} → Lawful t → (room allowance : ℕ) → steps t ≤ allowance → met t (steps t) ≤ room → length (honest t (leastMetric t)) ≤ room
+length-answered {t} law room allowance h k = go (searched-ending law 1 room allowance (omega arith))
+  where
+    go : {e : Ended} → Ending t 1 room allowance e → length (honest t (leastMetric t)) ≤ room
+    go (no-room z e) = absurd (omega (arith, met-some t (steps t)))
+    go (at-terminal j i rows M f l q b e) =
+        omega (arith, length-honest law, length-holds law (found-holds law M f l q), length-set rows i (shut (rowAt rows i)), M .held)
+    go (out-of-room j rows l b p q e) = absurd (omega (arith, met-mono t (suc j) (steps t) l))
+    go (out-of-steps rows l p e) = absurd (omega arith)

@@ -1,12 +1,12 @@
 -- What follows from an answered search for its sheet: the entries that the rows list, the terminal's row closed, are the honest sheet's;
 -- there are E + 1 of them, no more than the room; their costs fit; the message is L bits. Assumes nothing.
 use mathlib.Core.Path.{_≡_, sym, ap, _∙_}
-use mathlib.Core.List.{List, map}
+use mathlib.Core.List.{List}
 use mathlib.Core.Bool.{true}
 use Prim.Native.Nat.{ℕ, zero, suc, _+_, _^_, _≤_, _<_}
 use native.Mathlib.Omega.{arith}
 use lib.IntN.{ℤ}
-use lib.ListN.{length, take, drop, length-take, length-map, length-set, drop-of-length-le}
+use lib.ListN.{length, take, drop, length-set, drop-of-length-le}
 use lib.Seq.{drop-cons, take-at}
 use lib.Dec.{le→leb}
 use Rattle.codes.specs.declared.table.Code.{Code}
@@ -14,26 +14,21 @@ use Rattle.codes.specs.Codes.{lawful}
 use Rattle.codes.specs.Encoding.{isBit}
 use Rattle.lists.specs.Lists.{all}
 use Rattle.lists.proofs.Tests.{true-out}
-use Rattle.lists.proofs.Membership.{member-cast, map-in, all-in}
-use Rattle.lists.proofs.Unique.{length-within}
-use Rattle.lists.proofs.Sorted.{take-sorted, sorted-unique}
+use Rattle.lists.proofs.Membership.{all-in}
 use Rattle.trellis.specs.Trellis.{Trellis, Path, top, terminal}
-use Rattle.trellis.specs.Verdict.{Entry, before, ranked, steps, leastMetric, messages}
+use Rattle.trellis.specs.Verdict.{Entry, leastMetric, messages}
 use Rattle.trellis.specs.Sheet.{honest}
 use Rattle.trellis.specs.Lawful.{Lawful, messageOf}
-use Rattle.trellis.specs.Search.{Row, noRow, rowAt, nodeAt, nextClosed, shut, closed, searched, trace}
+use Rattle.trellis.specs.Search.{Row, rowAt, nodeAt, nextClosed, shut, closed, searched, trace}
 use Rattle.trellis.proofs.Paths.{Ends}
-use Rattle.trellis.proofs.Order.{before-order}
-use Rattle.trellis.proofs.Ranked.{ranked-sorted}
-use Rattle.trellis.proofs.Messages.{words-out, Word, messageOf-in, terminal-reached}
-use Rattle.trellis.proofs.MetNodes.{steps-few}
+use Rattle.trellis.proofs.Messages.{words-out, Word, messageOf-in}
 use Rattle.trellis.proofs.Places.{place-in}
 use Rattle.trellis.proofs.Found.{Right}
 use Rattle.trellis.proofs.Trace.{length-trace}
 use Rattle.trellis.proofs.Searched.{searched-right}
 use Rattle.trellis.proofs.Honest.{honest-out}
-use Rattle.trellis.proofs.HonestRanked.{front-honest, length-honest}
-use Rattle.trellis.proofs.HonestRows.{Holds, Left, searched-left}
+use Rattle.trellis.proofs.HonestRanked.{length-honest}
+use Rattle.trellis.proofs.HonestRows.{Holds, Left, searched-left, length-holds}
 use Rattle.trellis.proofs.Listing.{noEntry, Listing, honest-start, honest-next}
 use Rattle.blocks.specs.Symbols.{view}
 use Rattle.blocks.specs.Blocks.{trellisOf}
@@ -78,18 +73,6 @@ module _ (t : Trellis) (m : ℕ) {rows : List Row} (H : Holds (honest t m) rows)
   pub listable-honest : (n : ℕ) → n ≡ length (honest t m) → Listable rows n 0
   listable-honest n e = listable-from n 0 0 (honest-start t m H) (omega arith)
 
--- ---- how many there are
-
--- each of the E + 1 first ranked nodes has a row
-rows-enough : {t : Trellis} → Lawful t → {rows : List Row} → Holds (honest t (leastMetric t)) rows → suc (steps t) ≤ length rows
-rows-enough {t} law {rows} H =
-    let front : List Entry = take (suc (steps t)) (ranked t) in
-    let entries : List Entry = map (λ r. r .entry) rows in
-    let n : length front ≤ length entries =
-    length-within front entries (sorted-unique before before-order front (take-sorted before (suc (steps t)) (ranked t) (ranked-sorted t)))
-    (λ e k. let s = H .stored e (front-honest law e k) in member-cast (sym (s .equal)) (map-in (λ (r : Row). r .entry) (place-in noRow rows (s .row) (s .within)))) in
-    omega (arith, length-take (suc (steps t)) (ranked t), steps-few t (terminal-reached law), length-map rows (λ (r : Row). r .entry))
-
 -- ---- an answer
 
 module _ (c : Code) (l : ℕ) (symbols : List ℤ) {room allowance : ℕ} {first work : List ℕ} {metric done rows row : ℕ}
@@ -132,7 +115,7 @@ module _ (c : Code) (l : ℕ) (symbols : List ℤ) {room allowance : ℕ} {first
 
   pub entries-few : done + 1 ≤ room
   entries-few =
-      omega (arith, rows-enough law (answer-left .holds), right .ended, length-set (rowsOf work rows) row (shut (rowAt (rowsOf work rows) row)), length-rowsOf work rows, A .most)
+      omega (arith, length-holds law (answer-left .holds), right .ended, length-set (rowsOf work rows) row (shut (rowAt (rowsOf work rows) row)), length-rowsOf work rows, A .most)
 
   -- ---- the message is written
 

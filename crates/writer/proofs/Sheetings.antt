@@ -1,18 +1,17 @@
 -- Laws of what `decode_sheet` hands back: the rows of its definition. Assumes nothing.
-use mathlib.Core.Path.{_≡_, refl, sym, ap, _∙_}
-use mathlib.Core.List.{List, _++_}
-use mathlib.Core.Bool.{true, false}
-use Prim.Native.Nat.{ℕ, _+_, _*_, _≤_, _<_}
+use mathlib.Core.Path.{_≡_, refl}
+use mathlib.Core.List.{List}
+use Prim.Native.Nat.{ℕ, _≤_, _<_}
 use native.Mathlib.Omega.{arith}
 use borrow.Author.Tests.{lt-ltb, le-ltb}
 use lib.IntN.{ℤ}
-use lib.ListN.{length, take, drop}
+use lib.ListN.{length, take}
 use lib.Seq.{sets}
 use Rattle.codes.specs.declared.table.Code.{Code}
 use Rattle.lists.proofs.Writing.{sets-front}
 use Rattle.blocks.specs.Symbols.{view}
 use Rattle.blocks.specs.Blocks.{trellisOf}
-use Rattle.search.specs.Decoding.{Decoding, decoding}
+use Rattle.search.specs.Decoding.{decoding}
 use Rattle.search.specs.Decoding as decoder
 use Rattle.search.specs.Settling.{Refused}
 use Rattle.search.specs.declared.decoder.Decoded.{Decoded}
@@ -20,7 +19,7 @@ use Rattle.search.specs.declared.decoder.Decoded.the-variants as decoded
 use Rattle.sheets.specs.Bytes.{sheetBytes}
 use Rattle.sheets.specs.Checking.{honestSheet}
 use Rattle.writer.specs.declared.writer.DecodedSheet.the-variants.{Done, NoSheetRoom}
-use Rattle.writer.specs.Sheeting.{Sheeting, told, honestBytes, written, sheeting, passed}
+use Rattle.writer.specs.Sheeting.{told, honestBytes, written, sheeting, passed}
 
 module _ (c : Code) (l : ℕ) (symbols : List ℤ) (room allowance words : ℕ) (message sheet : List ℕ) where
   -- a refusal of `decode`
@@ -40,7 +39,7 @@ module _ (c : Code) (l : ℕ) (symbols : List ℤ) (room allowance words : ℕ) 
     own = sheetBytes l (honestSheet (trellisOf c l (view symbols)) (take l exit))
 
     -- the answer of `decode`
-    answered-sheeting : written own message sheet (decoder.handed 0 metric steps exit) ≡ sheeting c l symbols room allowance words message sheet
+    pub answered-sheeting : written own message sheet (decoder.handed 0 metric steps exit) ≡ sheeting c l symbols room allowance words message sheet
     unfolding sheeting honestBytes
     answered-sheeting = rw (← h)
 

@@ -1,12 +1,12 @@
 -- `entries::put_entries` meets its contract: what is left of the entries, put over the buffer as it is, finishes them (the record Entries).
 -- Assumes nothing.
-use mathlib.Core.Path.{_≡_, sym, ap, _∙_}
-use Prim.Native.Nat.{_+_, _-_, _≤_, _<_, _^_}
+use mathlib.Core.Path.{ap, _∙_}
+use Prim.Native.Nat.{_+_, _≤_, _<_, _^_}
 use native.Mathlib.Omega.{arith}
 use lib.ListN.{length}
 use lib.Seq.{sets}
-use Rattle.trellis.specs.Search.{Row, rowAt, costAt}
-use Rattle.store.specs.Memory.{rowOf, rowsOf}
+use Rattle.trellis.specs.Search.{Row, costAt}
+use Rattle.store.specs.Memory.{rowsOf}
 use Rattle.store.proofs.Rows.{length-rowsOf}
 use Rattle.sheets.specs.Bytes.{entryBytes}
 use Rattle.writer.proofs.Putting.{Entries, entries-start, entries-here, entries-next, entries-done}
