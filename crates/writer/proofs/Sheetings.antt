@@ -19,7 +19,8 @@ use Rattle.search.specs.declared.decoder.Decoded.the-variants as decoded
 use Rattle.sheets.specs.Bytes.{sheetBytes}
 use Rattle.sheets.specs.Checking.{honestSheet}
 use Rattle.writer.specs.declared.writer.DecodedSheet.the-variants.{Done, NoSheetRoom}
-use Rattle.writer.specs.Sheeting.{told, honestBytes, written, sheeting, passed}
+use Rattle.writer.specs.Sheeting.{told, honestBytes, written, sheeting}
+use Rattle.writer.specs.Work.{passed}
 
 module _ (c : Code) (l : ℕ) (symbols : List ℤ) (room allowance words : ℕ) (message sheet : List ℕ) where
   -- a refusal of `decode`

@@ -11,8 +11,6 @@ use Rattle.codes.specs.declared.table.Code.{Code}
 use Rattle.blocks.specs.Symbols.{view}
 use Rattle.blocks.specs.Blocks.{trellisOf}
 use Rattle.search.specs.Decoding.{Decoding, decoding}
-use Rattle.search.specs.declared.decoder.Decoded.{Decoded}
-use Rattle.search.specs.declared.decoder.Decoded.the-variants as decoded
 use Rattle.sheets.specs.Bytes.{sheetBytes}
 use Rattle.sheets.specs.Checking.{honestSheet}
 use Rattle.writer.specs.declared.writer.DecodedSheet.{DecodedSheet}
@@ -57,12 +55,3 @@ sheeting c l symbols room allowance words message sheet =
     let d : Decoding = decoding c l symbols room allowance words message in
     cond (eqb (d .number) 0) (written (honestBytes c l symbols d) message sheet d)
     (handed (d .number) (d .metric) (d .steps) 0 message sheet)
-
--- a refusal of `decode` as one of `decode_sheet`
-unfoldable pub passed : Decoded → DecodedSheet
-passed (decoded.Done metric steps) = Done metric steps 0
-passed decoded.BadCode = BadCode
-passed decoded.BadSize = BadSize
-passed (decoded.NoRoom steps) = NoRoom steps
-passed (decoded.NoAllowance steps) = NoAllowance steps
-passed (decoded.Tied metric steps) = Tied metric steps

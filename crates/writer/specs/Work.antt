@@ -4,7 +4,11 @@ use Prim.Native.Nat.{ℕ, zero, suc, _^_, _<_}
 use lib.ListN.{length}
 use Rattle.trellis.specs.Verdict.{Entry}
 use Rattle.trellis.specs.Search.{Row, entryAt, nodeAt, costAt, nextClosed}
+use Rattle.search.specs.declared.decoder.Decoded.{Decoded}
+use Rattle.search.specs.declared.decoder.Decoded.the-variants as decoded
 use Rattle.sheets.specs.Bytes.{Sheet}
+use Rattle.writer.specs.declared.writer.DecodedSheet.{DecodedSheet}
+use Rattle.writer.specs.declared.writer.DecodedSheet.the-variants.{Done, BadCode, BadSize, NoRoom, NoAllowance, Tied}
 
 -- so many closed rows' entries, row k's first, each next one by level, then state
 unfoldable pub listed : List Row → ℕ → ℕ → List Entry
@@ -19,3 +23,12 @@ Listable rows (suc n) k = (k < length rows) × (costAt rows k < 2 ^ 32) × Lista
 -- a sheet by its parts
 abbrev pub sheetOf : ℕ → List ℕ → List Entry → Sheet
 sheetOf metric message entries = record { metric = metric; message = message; entries = entries }
+
+-- a refusal of `decode` as one of `decode_sheet`
+unfoldable pub passed : Decoded → DecodedSheet
+passed (decoded.Done metric steps) = Done metric steps 0
+passed decoded.BadCode = BadCode
+passed decoded.BadSize = BadSize
+passed (decoded.NoRoom steps) = NoRoom steps
+passed (decoded.NoAllowance steps) = NoAllowance steps
+passed (decoded.Tied metric steps) = Tied metric steps

@@ -17,8 +17,8 @@ ghost use Rattle.codes.specs.Encoding.{isBit};
 ghost use Rattle.store.specs.Memory.{rowsOf, Stored};
 ghost use Rattle.sheets.specs.Bytes.{sheetBytes};
 ghost use Rattle.sheets.specs.Steps.{Puttable};
-ghost use Rattle.writer.specs.Work.{listed, Listable, sheetOf};
-ghost use Rattle.writer.specs.Sheeting.{told, passed, sheeting};
+ghost use Rattle.writer.specs.Work.{passed, listed, Listable, sheetOf};
+ghost use Rattle.writer.specs.Sheeting.{told, sheeting};
 
 // What `decode_sheet` answers: the message and the sheet are written, with the metric, the steps and the sheet's bytes; or a refusal of
 // `decode`; or the sheet needs so many bytes.

@@ -1,7 +1,7 @@
 -- `writer::refusal` meets its contract: case by case as the definition. Assumes nothing.
 use borrow.Author.Needs.{needs}
 use mathlib.Core.Path.{sym, ap}
-use Rattle.writer.specs.Sheeting.{passed}
+use Rattle.writer.specs.Work.{passed}
 use Rattle.writer.proofs.writer.refusal.Statement.{statement}
 use Rattle.writer.proofs.writer.refusal.Tie as tie
 
