@@ -59,13 +59,7 @@ fn convert(front_end: FrontEnd, reading: f32) -> i8 {
 }
 
 fn refused(number: u32, index: usize) -> Told {
-    Told {
-        number,
-        count: 0,
-        index,
-        lowest: 0.0,
-        highest: 0.0,
-    }
+    Told { number, count: 0, index, lowest: 0.0, highest: 0.0 }
 }
 
 pub fn front(front_end: FrontEnd, readings: &[f32], symbols: &mut [i8]) -> Told {
@@ -84,10 +78,7 @@ pub fn front(front_end: FrontEnd, readings: &[f32], symbols: &mut [i8]) -> Told 
     // Of equal ones the first seen: no earlier reading is as low, and none lower follows.
     let first = |beats: fn(f32, f32) -> bool| {
         let mine = |&&x: &&f32| readings.iter().all(|&other| !beats(other, x));
-        *readings
-            .iter()
-            .find(mine)
-            .expect("a block of finite readings has a lowest and a highest")
+        *readings.iter().find(mine).expect("a block of finite readings has a lowest and a highest")
     };
     Told {
         number: 0,
@@ -105,21 +96,8 @@ mod tests {
     #[test]
     fn case_15() {
         let mut symbols = [99; 6];
-        let told = front(
-            FrontEnd::Gain(2.0),
-            &[0.25, -0.25, 63.0, 63.25, 1000.0],
-            &mut symbols,
-        );
+        let told = front(FrontEnd::Gain(2.0), &[0.25, -0.25, 63.0, 63.25, 1000.0], &mut symbols);
         assert_eq!(symbols, [1, -1, 126, 127, 127, 99]);
-        assert_eq!(
-            told,
-            Told {
-                number: 0,
-                count: 5,
-                index: 0,
-                lowest: -0.25,
-                highest: 1000.0
-            }
-        );
+        assert_eq!(told, Told { number: 0, count: 5, index: 0, lowest: -0.25, highest: 1000.0 });
     }
 }

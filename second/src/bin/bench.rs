@@ -141,6 +141,12 @@ fn library_is_right(viterbi: &Viterbi, questions: &[(Question, Vec<u8>)], memory
     })
 }
 
+/// Two digits that tell something.
+fn share(ratio: f64) -> String {
+    let zeros = (-ratio.log10()).floor().max(0.0) as usize;
+    format!("{ratio:.*}", zeros + 2)
+}
+
 fn mean_steps(answers: &[Answer]) -> f64 {
     answers.iter().map(|answer| f64::from(answer.steps)).sum::<f64>() / answers.len() as f64
 }
@@ -157,8 +163,8 @@ fn row(
     let (answers, sheets) = agreed(memory, &questions);
     let answered: Vec<Question> = sheets.iter().map(|(question, _)| question.clone()).collect();
     let base = timed(memory, &questions, |memory, question| memory.linear(question));
-    let decode = timed(memory, &questions, |memory, question| memory.proved(question)) / base;
-    let mut shares = vec![format!("{decode:.2}")];
+    let decode = timed(memory, &questions, |memory, question| memory.proved(question));
+    let mut shares = vec![format!("{:.0}", decode * 1e6 / questions.len() as f64), share(decode / base)];
     if answered.is_empty() {
         shares.extend(["–".to_string(), "–".to_string(), "–".to_string()]);
     } else {
@@ -168,7 +174,7 @@ fn row(
             let Question { code, length, symbols, .. } = question;
             face::check(code, *length as usize, symbols, sheet, &mut memory.message)
         });
-        shares.extend([format!("{sheet:.2}"), format!("{:.2}", check / base)]);
+        shares.extend([share(sheet), share(check / base)]);
         let viterbi = library.and_then(|library| Viterbi::new(library, code, length));
         shares.push(match viterbi.filter(|viterbi| library_is_right(viterbi, &sheets, memory)) {
             None => "–".to_string(),
@@ -176,7 +182,7 @@ fn row(
                 let time = timed(memory, &answered, |memory, question| {
                     viterbi.decode(&question.symbols, &mut memory.message);
                 });
-                format!("{:.2}", time / base)
+                share(time / base)
             }
         });
     }
@@ -290,8 +296,8 @@ fn main() -> Result<(), Box<dyn std::error::Error>> {
     println!("Times as shares of the linear scan's on the same blocks; R = {ROOM}, B the largest.");
     println!("Sheet, check and libosmocore over the answered blocks alone. Symbols of strength {STRENGTH}, noise nearly");
     println!("normal of standard deviation 16 (light), 24 (middle), 30 (heavy).\n");
-    println!("| Code | L | Noise | Answered | Nodes expanded, mean | Decode | Decode with sheet | Check | libosmocore |");
-    println!("|---|---|---|---|---|---|---|---|---|");
+    println!("| Code | L | Noise | Answered | Nodes expanded, mean | Decode, µs | Decode | Decode with sheet | Check | libosmocore |");
+    println!("|---|---|---|---|---|---|---|---|---|---|");
     let memory = &mut Memory::new();
     for code in (0..4).map(house) {
         for length in LENGTHS {
