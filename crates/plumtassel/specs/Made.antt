@@ -1,4 +1,4 @@
--- What the helpers of the face make of each answer: the step between an operation's enum and the caller's struct. Not for the reader: no exported
+-- What the inner functions of the face make of each answer: the step between an operation's enum and the caller's struct. Not for the reader: no exported
 -- function's contract cites it. Assumes nothing.
 use mathlib.Core.Bool.{cond}
 use Prim.Native.Nat.{ℕ}
