@@ -70,6 +70,21 @@ fn fourteen() -> Vec<Case> {
     vec![check(&sheet), check(&sheet[..46]), check(&dearer), whole]
 }
 
+/// The sheet of a block that is answered: written, and then checked.
+fn sheeted(case: &Case) -> Vec<Case> {
+    let Case::Decode { asked, message } = case else { return vec![] };
+    let written = |sheet| Case::DecodeSheet { asked: asked.clone(), message: *message, sheet };
+    // With no buffer for it the size is told.
+    let small = written(0).outcome(ordered).numbers;
+    if small[0] != 9 {
+        return vec![];
+    }
+    let whole = written(small[3]);
+    let sheet = whole.outcome(ordered).buffers.remove(1);
+    let Question { code, length, symbols, .. } = asked.clone();
+    vec![whole, Case::Check { code, length, symbols, sheet, message: length }]
+}
+
 /// A sheet of many entries, as honest as it is long, and once more with its last cost raised.
 fn long_sheets(random: &mut Random) -> Vec<Case> {
     let code = house(1);
@@ -108,6 +123,7 @@ pub fn stored(seed: u64) -> Vec<Case> {
     let mut random = Random::new(seed);
     let random = &mut random;
     let mut cases = blocks_to_try();
+    cases.extend(blocks_to_try().iter().flat_map(sheeted));
     cases.extend(pasted());
     cases.extend(long_sheets(random));
     for turn in 0..2000 {
