@@ -7,7 +7,8 @@ use Prim.Native.Nat.{ℕ, zero, suc}
 use lib.ListN.{length, drop}
 use Rattle.lists.specs.Lists.{all}
 use Rattle.codes.specs.Codes.{lawful, codeword, blockLength}
-use Rattle.codes.specs.Encoding.{Encoding, handed, told, sizesFit, isBit, encoding, Encodable}
+use Rattle.codes.specs.Encoding.{Encoding, handed, told, sizesFit, isBit, encoding}
+use Rattle.codes.specs.Work.{Encodable}
 use Rattle.codes.specs.declared.table.Code.{Code}
 use Rattle.codes.specs.declared.encoder.Encoded.{Encoded}
 use Rattle.codes.specs.declared.encoder.Encoded.the-variants.{Done, BadCode, BadSize, Malformed}

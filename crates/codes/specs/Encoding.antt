@@ -1,7 +1,6 @@
 -- What `encode` answers and writes, for every input: document 01, 'When the desk says no'. Believed, after Codes. Assumes nothing.
-use mathlib.Core.Path.{_≡_}
 use mathlib.Core.List.{List, _++_}
-use mathlib.Core.Bool.{Bool, true, cond, not, _&&_}
+use mathlib.Core.Bool.{Bool, cond, not, _&&_}
 use Prim.Native.Nat.{ℕ}
 use lib.Dec.{leb}
 use lib.ListN.{length, drop}
@@ -43,10 +42,3 @@ encoding c message out =
     (cond (not (sizesFit c (length message) (length out))) (handed 2 0 out)
     (cond (not (all isBit message)) (handed 6 0 out)
     (handed 0 (blockLength c (length message)) (codeword c message ++ drop (blockLength c (length message)) out))))
-
--- ---- not for the reader: what the writing of a codeword asks of its caller
-
-pub record Encodable (c : Code) (message : List ℕ) (room : ℕ) : Type 0 where
-  pub code : lawful c ≡ true
-  pub sizes : sizesFit c (length message) room ≡ true
-  pub bits : all isBit message ≡ true

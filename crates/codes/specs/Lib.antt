@@ -1,3 +1,4 @@
 pub mod Limits
 pub mod Codes
 pub mod Encoding
+pub mod Work

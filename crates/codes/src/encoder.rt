@@ -11,7 +11,8 @@ ghost use lib.ListN.{length, getD, take};
 ghost use lib.Seq.{sets};
 ghost use Rattle.lists.specs.Lists.{all};
 ghost use Rattle.codes.specs.Codes.{branchOutputs, codeword};
-ghost use Rattle.codes.specs.Encoding.{isBit, told, encoding, Encodable};
+ghost use Rattle.codes.specs.Encoding.{isBit, told, encoding};
+ghost use Rattle.codes.specs.Work.{Encodable};
 
 // What `encode` answers: the number of symbols written, or a refusal.
 pub enum Encoded {

@@ -10,7 +10,8 @@ use native.Mathlib.Omega.{arith}
 use lib.ListN.{length, drop}
 use Rattle.lists.proofs.Writing.{sets-front}
 use Rattle.codes.specs.Codes.{lawful, codeword, blockLength}
-use Rattle.codes.specs.Encoding.{Encodable, sizesFit, handed, told}
+use Rattle.codes.specs.Encoding.{sizesFit, handed, told}
+use Rattle.codes.specs.Work.{Encodable}
 use Rattle.codes.proofs.Codewords.{length-codeword}
 use Rattle.codes.proofs.Encodings.{encoding-bad-code, encoding-bad-size, encoding-malformed, encoding-done}
 use Rattle.codes.proofs.Rules.{lawful-out}
