@@ -1,5 +1,5 @@
 // What is printed of an answer: decimal numbers with a space between, and checksums of buffers.
-use crate::record::unsigned;
+use fields::unsigned;
 use plumtassel::Answer;
 use plumtassel::Report;
 use show::number;

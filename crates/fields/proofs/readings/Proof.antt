@@ -1,10 +1,10 @@
--- `record::readings` is safe and ends: the measure is how many places are left. Assumes nothing.
+-- `readings` is safe and ends: the measure is how many places are left. Assumes nothing.
 use mathlib.Core.Path.{_≡_}
 use Prim.Native.Nat.{_-_, _≤_}
 use lib.ListN.{length}
 use borrow.Author.Needs.{needs}
-use Rattle.answers.proofs.record.readings.Statement.{statement}
-use Rattle.answers.proofs.record.readings.Tie as tie
+use Rattle.fields.proofs.readings.Statement.{statement}
+use Rattle.fields.proofs.readings.Tie as tie
 
 abbrev Inv-loop : tie.InvT-loop
 Inv-loop bytes into₀ i₀ into i = (i ≤ length into₀) × (length into ≡ length into₀)

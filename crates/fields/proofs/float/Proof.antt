@@ -1,10 +1,10 @@
--- `record::float` is safe: the bits that are left are no NaN's. Assumes nothing.
+-- `float` is safe: the bits that are left are no NaN's. Assumes nothing.
 use borrow.Author.Needs.{needs}
 use borrow.Author.Tests.{le-ltb}
 use lib.Ieee.{binary32}
 use lib.Ieee.Bits.{nanBits-above}
-use Rattle.answers.proofs.record.float.Statement.{statement}
-use Rattle.answers.proofs.record.float.Tie as tie
+use Rattle.fields.proofs.float.Statement.{statement}
+use Rattle.fields.proofs.float.Tie as tie
 
 number-requires : tie.Need-number-requires
 number-requires c κs = search needs

@@ -1,4 +1,4 @@
--- `record::unsigned` is safe: how far a symbol lies below -1 is no negative number and fits a byte, and so does a symbol that is not below 0.
+-- `unsigned` is safe: how far a symbol lies below -1 is no negative number and fits a byte, and so does a symbol that is not below 0.
 -- Assumes nothing.
 use mathlib.Core.Path.{_≡_, ap}
 use mathlib.Core.Bool.{true, false, true≢false}
@@ -12,8 +12,8 @@ use lib.Signed.{ltZ, nonNeg}
 use mir.Syntax.{w8}
 use mir.Val.{Fits, SFits}
 use mir.ValLaws.{toZ-ofZ}
-use Rattle.answers.proofs.record.unsigned.Statement.{statement}
-use Rattle.answers.proofs.record.unsigned.Tie as tie
+use Rattle.fields.proofs.unsigned.Statement.{statement}
+use Rattle.fields.proofs.unsigned.Tie as tie
 
 -- what a cast to a byte asks
 abbrev IsByte : ℤ → Type 0

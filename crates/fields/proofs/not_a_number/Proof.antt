@@ -1,8 +1,8 @@
--- `record::not_a_number` is safe: an infinity's bits are no NaN's. Assumes nothing.
+-- `not_a_number` is safe: an infinity's bits are no NaN's. Assumes nothing.
 use borrow.Author.Needs.{needs}
 use lib.Ieee as Ieee
-use Rattle.answers.proofs.record.not_a_number.Statement.{statement}
-use Rattle.answers.proofs.record.not_a_number.Tie as tie
+use Rattle.fields.proofs.not_a_number.Statement.{statement}
+use Rattle.fields.proofs.not_a_number.Tie as tie
 
 float-from-bits-infinity : tie.Need-float-from-bits-infinity
 unfolding Ieee.nanBits
