@@ -36,8 +36,12 @@ fn memory() -> [u64; 6144]
 fn main() {
     let mut bytes = input();
     let got = io::read_full(STDIN_FILENO, &mut bytes);
-    if got < 3 || 1024 <= got {
-        say::refusal(2);
+    if got < 3 {
+        say::too_short();
+        return;
+    }
+    if 1024 <= got {
+        say::too_long();
         return;
     }
     announced(&bytes[..got]);

@@ -21,7 +21,7 @@ pub fn block(code: Code, bits: usize, symbols: usize) {
     text(b" symbols\n");
 }
 
-// The message by its bits and, eight bits a letter, as text.
+// The message by its bits and, eight bits a letter, as text; bits behind the last whole letter make none.
 pub fn message(bits: &[u8]) {
     text(b"message ");
     digits(bits, 8);
@@ -70,10 +70,13 @@ pub fn found(metric: u32, steps: u32) {
     text(b" nodes expanded\n");
 }
 
-pub fn refusal(number: u32) {
-    text(b"refused ");
-    word(number);
-    text(b"\n");
+// What is read before there is a call to refuse.
+pub fn too_short() {
+    text(b"no block: there must be a byte for the row and two for L\n");
+}
+
+pub fn too_long() {
+    text(b"no block: the longest has 864 symbols\n");
 }
 
 // A refusal by its number, and what it means.

@@ -9,7 +9,7 @@ use codes::table::house;
 use search::decoder::Decoded;
 use search::decoder::decode;
 use show::count;
-use show::digits;
+use show::first_digits;
 use show::text;
 use show::word;
 
@@ -18,7 +18,7 @@ const ALL: u32 = 4294967295;
 // The largest number that a word holds.
 const LONGEST: usize = 18446744073709551615;
 
-// Cases 4 to 11: small blocks with the room and the allowance that they are given.
+// Cases 4 to 9: one small block with the room and the allowance that it is given.
 pub fn small() {
     let block = [3i8, -5, -2, 1, -4, -6];
     line(b"4    ", house(0), 1, &block, 5, 3, 15, 1);
@@ -28,6 +28,10 @@ pub fn small() {
     line(b"8    ", house(0), 1, &block, 0, 3, 0, 1);
     line(b"     ", house(0), 1, &block, 0, 0, 0, 1);
     line(b"9    ", house(0), 1, &block, 1, 0, 3, 1);
+}
+
+// Cases 10 and 11, two blocks that are tied, and one of the heaviest symbols.
+pub fn even() {
     let zeros = [0i8, 0, 0, 0, 0, 0];
     line(b"10   ", house(0), 1, &zeros, 6, 5, 18, 1);
     let tied = [-1i8, -1, 2, 9, 0, 0];
@@ -55,8 +59,8 @@ pub fn large() {
     line(b"     ", wide(), 200, &plus, 4096, ALL, 12288, 200);
 }
 
-// Lengths, room and memory that are refused, and the least that is taken.
-pub fn sizes() {
+// Lengths that are refused.
+pub fn lengths() {
     let plus = ones();
     line(
         b"16   ",
@@ -72,6 +76,10 @@ pub fn sizes() {
     line(b"     ", house(0), 1, part(&plus, 7), 5, 3, 15, 1);
     let short = [3i8, -5, -2, 1, -4];
     line(b"     ", house(0), 1, &short, 5, 3, 15, 1);
+}
+
+// Room and memory that are refused, and the least that is taken.
+pub fn sizes() {
     let block = [3i8, -5, -2, 1, -4, -6];
     line(b"16   ", house(0), 1, &block, 4097, 3, 12288, 1);
     line(b"     ", house(0), LONGEST, &block, LONGEST, 3, 15, 1);
@@ -165,7 +173,7 @@ fn tried(
         &mut *work,
         &mut *message,
     ));
-    digits(message, 8);
+    first_digits(message, 8);
     text(b"\n");
 }
 

@@ -5,7 +5,7 @@ use codes::encoder::encode;
 use codes::table::Code;
 use codes::table::house;
 use show::count;
-use show::digits;
+use show::first_digits;
 use show::text;
 use show::word;
 
@@ -79,9 +79,9 @@ fn tried(code: Code, message: &[u8], out: &mut [u8]) {
     text(b"encode ");
     describe(code);
     text(b" message ");
-    digits(message, 8);
+    first_digits(message, 8);
     report(encode(code, message, &mut *out));
-    digits(out, code.outputs as usize);
+    first_digits(out, code.outputs as usize);
     text(b"\n");
 }
 

@@ -8,6 +8,8 @@ fn main() {
     encoding::answered();
     encoding::refused();
     decoding::small();
+    decoding::even();
     decoding::large();
+    decoding::lengths();
     decoding::sizes();
 }

@@ -2,7 +2,7 @@
 // that each call is safe and ends; what a program prints is compared with its expected output.
 use libc::STDOUT_FILENO;
 
-// How many bytes of a long list `digits` shows.
+// How many bytes of a long list `first_digits` shows.
 const SHOWN: usize = 24;
 
 pub fn text(words: &[u8]) {
@@ -30,15 +30,11 @@ pub fn digit(x: u8) {
     }
 }
 
-// The first bytes as digits, a space before each further group; three dots for the rest.
+// Bytes as digits, a space before each further group.
 pub fn digits(bytes: &[u8], group: usize) {
     let mut left = group;
     let mut i = 0usize;
     while i < bytes.len() {
-        if i == SHOWN {
-            text(b"...");
-            return;
-        }
         if left == 0 {
             text(b" ");
             left = group;
@@ -49,6 +45,16 @@ pub fn digits(bytes: &[u8], group: usize) {
         }
         i += 1;
     }
+}
+
+// The first bytes as digits; three dots for the rest.
+pub fn first_digits(bytes: &[u8], group: usize) {
+    if bytes.len() <= SHOWN {
+        digits(bytes, group);
+        return;
+    }
+    digits(&bytes[..SHOWN], group);
+    text(b"...");
 }
 
 // A symbol, in decimal.

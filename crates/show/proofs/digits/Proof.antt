@@ -6,10 +6,10 @@ use Rattle.show.proofs.digits.Statement.{statement}
 use Rattle.show.proofs.digits.Tie as tie
 
 abbrev Inv-loop : tie.InvT-loop
-Inv-loop bytes group left₀ i₀ t5 t6 left i = i ≤ length bytes
+Inv-loop bytes group left₀ i₀ t5 left i = i ≤ length bytes
 
 abbrev μ-loop : tie.MeasureT-loop
-μ-loop bytes group left₀ i₀ t5 t6 left i = length bytes - i
+μ-loop bytes group left₀ i₀ t5 left i = length bytes - i
 
 loop-holds : tie.Need-loop-holds Inv-loop μ-loop
 loop-holds c = search needs
@@ -19,15 +19,6 @@ slice-aggregate-text c = search needs
 
 text-requires : tie.Need-text-requires Inv-loop μ-loop
 text-requires c κs = search needs
-
-returns : tie.Need-returns Inv-loop μ-loop
-returns c = search needs
-
-slice-aggregate-text-2 : tie.Need-slice-aggregate-text-2 Inv-loop μ-loop
-slice-aggregate-text-2 c = search needs
-
-text-requires-2 : tie.Need-text-requires-2 Inv-loop μ-loop
-text-requires-2 c κs = search needs
 
 shared-slice-read-digit : tie.Need-shared-slice-read-digit Inv-loop μ-loop
 shared-slice-read-digit c = search needs
@@ -47,8 +38,8 @@ loop-less c = search needs
 loop-again : tie.Need-loop-again Inv-loop μ-loop
 loop-again c = search needs
 
-returns-2 : tie.Need-returns-2 Inv-loop μ-loop
-returns-2 c = search needs
+returns : tie.Need-returns Inv-loop μ-loop
+returns c = search needs
 
 pub digits-spec : {M : Type 1} → statement M
 digits-spec =
@@ -59,13 +50,10 @@ digits-spec =
     loop-holds
     slice-aggregate-text
     text-requires
-    returns
-    slice-aggregate-text-2
-    text-requires-2
     shared-slice-read-digit
     digit-requires
     sub-left
     add-i
     loop-less
     loop-again
-    returns-2)
+    returns)
