@@ -1,4 +1,10 @@
 // The sheets to try: case 4's, case 14's two damaged ones, every flip of a single bit of it, and sheets that try to mislead.
+mod given;
+
+use crate::given::BLOCK;
+use crate::given::FAR;
+use crate::given::SHEET;
+use crate::given::TIED;
 use codes::table::house;
 use sheets::check::Checked;
 use sheets::check::check;
@@ -6,59 +12,6 @@ use show::count;
 use show::digits;
 use show::text;
 use show::word;
-
-// Case 4's block, and its honest sheet.
-const BLOCK: [i8; 6] = [3, -5, -2, 1, -4, -6];
-
-const SHEET: [u8; 47] = [
-    0x2B,
-    0,
-    0,
-    0,
-    1,
-    1,
-    1,
-    0,
-    3,
-    0,
-    0,
-    0,
-    4,
-    0,
-    0x80,
-    0,
-    0,
-    0,
-    0,
-    0,
-    0,
-    0,
-    0,
-    1,
-    0,
-    2,
-    0,
-    3,
-    0,
-    0,
-    0,
-    2,
-    0,
-    1,
-    0,
-    3,
-    0,
-    0,
-    0,
-    3,
-    0,
-    0,
-    0,
-    3,
-    0,
-    0,
-    0,
-];
 
 const MASKS: [u8; 8] = [128, 64, 32, 16, 8, 4, 2, 1];
 
@@ -99,69 +52,13 @@ fn main() {
 // Sheets with an entry more, and a tied block.
 fn misleading() {
     let block = BLOCK;
-    let far = [
-        0x33u8,
-        0,
-        0,
-        0,
-        1,
-        1,
-        1,
-        0,
-        3,
-        0,
-        0,
-        0,
-        5,
-        0,
-        0x80,
-        0,
-        0,
-        0,
-        0,
-        0,
-        0,
-        0,
-        0,
-        1,
-        0,
-        0,
-        0,
-        255,
-        255,
-        255,
-        255,
-        1,
-        0,
-        2,
-        0,
-        3,
-        0,
-        0,
-        0,
-        2,
-        0,
-        1,
-        0,
-        3,
-        0,
-        0,
-        0,
-        3,
-        0,
-        0,
-        0,
-        3,
-        0,
-        0,
-        0,
-    ];
+    let far = FAR;
     line(
         b"    a node listed with cost 4294967295       ",
         &block,
         &far,
     );
-    let mut beside = far;
+    let mut beside = FAR;
     beside[25] = 1;
     line(
         b"    an unreachable node with that cost       ",
@@ -178,71 +75,7 @@ fn misleading() {
         &beside,
     );
     let zeros = [0i8; 6];
-    let tied = [
-        0x3Bu8,
-        0,
-        0,
-        0,
-        1,
-        1,
-        1,
-        0,
-        0,
-        0,
-        0,
-        0,
-        6,
-        0,
-        0x80,
-        0,
-        0,
-        0,
-        0,
-        0,
-        0,
-        0,
-        0,
-        1,
-        0,
-        0,
-        0,
-        0,
-        0,
-        0,
-        0,
-        1,
-        0,
-        2,
-        0,
-        0,
-        0,
-        0,
-        0,
-        2,
-        0,
-        0,
-        0,
-        0,
-        0,
-        0,
-        0,
-        2,
-        0,
-        1,
-        0,
-        0,
-        0,
-        0,
-        0,
-        3,
-        0,
-        0,
-        0,
-        0,
-        0,
-        0,
-        0,
-    ];
+    let tied = TIED;
     line(
         b"    two messages tied                        ",
         &zeros,
