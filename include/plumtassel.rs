@@ -45,7 +45,8 @@ pub enum FrontEnd {
 
 pub const WORDS_PER_NODE: usize = 3;
 
-mod raw {
+/// The functions as C declares them, for who has pointers and no slices: plumtassel.h says what is asked of a caller.
+pub mod raw {
     use super::{Answer, Code, Report};
 
     #[repr(C)]
@@ -111,6 +112,10 @@ mod raw {
         ) -> Report;
     }
 }
+
+// As the header lays them out.
+const _: () = assert!(std::mem::size_of::<Code>() == 24 && std::mem::size_of::<Answer>() == 16);
+const _: () = assert!(std::mem::size_of::<raw::FrontEnd>() == 16 && std::mem::size_of::<Report>() == 20);
 
 fn answered(answer: Answer) -> Result<Answer, Answer> {
     if answer.number == 0 {

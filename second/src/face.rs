@@ -1,103 +1,9 @@
 //! The proved code through its C face, with every buffer between pages that no one may touch.
 use crate::cases::{numbers, Case, Outcome, Question, FILL};
 use crate::code::{Answer, Code};
+use crate::plumtassel::{self, raw, Report};
 use std::ffi::c_void;
 use std::ptr::null_mut;
-
-#[repr(C)]
-#[derive(Clone, Copy)]
-pub struct FaceCode {
-    outputs: u32,
-    memory: u32,
-    generators: [u32; 4],
-}
-
-#[repr(C)]
-#[derive(Clone, Copy)]
-pub struct FaceAnswer {
-    number: u32,
-    metric: u32,
-    steps: u32,
-    length: u32,
-}
-
-#[repr(C)]
-#[derive(Clone, Copy)]
-pub struct FaceFrontEnd {
-    form: u32,
-    offset: f32,
-    gain: f32,
-    threshold: f32,
-}
-
-#[repr(C)]
-#[derive(Clone, Copy)]
-pub struct FaceReport {
-    number: u32,
-    count: u32,
-    index: u32,
-    lowest: f32,
-    highest: f32,
-}
-
-/// As the C header lays them out.
-const _: () = assert!(size_of::<FaceCode>() == 24 && size_of::<FaceAnswer>() == 16);
-const _: () = assert!(size_of::<FaceFrontEnd>() == 16 && size_of::<FaceReport>() == 20);
-
-#[link(name = "plumtassel", kind = "static")]
-extern "C" {
-    fn plumtassel_house(row: usize) -> FaceCode;
-    fn plumtassel_encode(
-        code: FaceCode,
-        message: *const u8,
-        length: usize,
-        out: *mut u8,
-        out_length: usize,
-    ) -> FaceAnswer;
-    fn plumtassel_decode(
-        code: FaceCode,
-        length: usize,
-        symbols: *const i8,
-        count: usize,
-        room: usize,
-        allowance: u32,
-        work: *mut u64,
-        words: usize,
-        message: *mut u8,
-        message_length: usize,
-    ) -> FaceAnswer;
-    fn plumtassel_decode_sheet(
-        code: FaceCode,
-        length: usize,
-        symbols: *const i8,
-        count: usize,
-        room: usize,
-        allowance: u32,
-        work: *mut u64,
-        words: usize,
-        message: *mut u8,
-        message_length: usize,
-        sheet: *mut u8,
-        sheet_length: usize,
-    ) -> FaceAnswer;
-    fn plumtassel_check(
-        code: FaceCode,
-        length: usize,
-        symbols: *const i8,
-        count: usize,
-        sheet: *const u8,
-        sheet_length: usize,
-        message: *mut u8,
-        message_length: usize,
-    ) -> FaceAnswer;
-    fn plumtassel_front(
-        front: FaceFrontEnd,
-        readings: *const f32,
-        count: usize,
-        symbols: *mut i8,
-        symbols_length: usize,
-    ) -> FaceReport;
-}
 
 extern "C" {
     fn mmap(at: *mut c_void, size: usize, may: i32, how: i32, file: i32, offset: i64) -> *mut c_void;
@@ -191,72 +97,39 @@ pub struct Face {
     readings: Guarded,
 }
 
-fn face_code(code: &Code) -> FaceCode {
-    FaceCode { outputs: code.outputs, memory: code.memory, generators: code.generators }
+fn face_code(code: &Code) -> plumtassel::Code {
+    plumtassel::Code { outputs: code.outputs, memory: code.memory, generators: code.generators }
 }
 
-fn answer(told: FaceAnswer) -> Answer {
+fn answer(told: plumtassel::Answer) -> Answer {
     Answer { number: told.number, metric: told.metric, steps: told.steps, length: told.length }
 }
 
+/// What is told, answered or refused.
+fn told(result: Result<plumtassel::Answer, plumtassel::Answer>) -> Answer {
+    answer(result.unwrap_or_else(|refusal| refusal))
+}
+
 pub fn house(row: usize) -> Code {
-    // Safe: the function reads its argument alone.
-    let code = unsafe { plumtassel_house(row) };
-    Code { outputs: code.outputs, memory: code.memory, generators: code.generators }
+    let plumtassel::Code { outputs, memory, generators } = plumtassel::house(row);
+    Code { outputs, memory, generators }
 }
 
 /// For the bench: ordinary slices, no guards.
 pub fn decode(asked: &Question, work: &mut [u64], message: &mut [u8], sheet: Option<&mut [u8]>) -> Answer {
     let Question { code, length, symbols, room, allowance, .. } = asked;
     let (code, length, room) = (face_code(code), *length as usize, *room as usize);
-    // Safe: every pointer goes with the length of its slice.
-    answer(unsafe {
-        match sheet {
-            None => plumtassel_decode(
-                code,
-                length,
-                symbols.as_ptr(),
-                symbols.len(),
-                room,
-                *allowance,
-                work.as_mut_ptr(),
-                work.len(),
-                message.as_mut_ptr(),
-                message.len(),
-            ),
-            Some(sheet) => plumtassel_decode_sheet(
-                code,
-                length,
-                symbols.as_ptr(),
-                symbols.len(),
-                room,
-                *allowance,
-                work.as_mut_ptr(),
-                work.len(),
-                message.as_mut_ptr(),
-                message.len(),
-                sheet.as_mut_ptr(),
-                sheet.len(),
-            ),
+    told(match sheet {
+        None => plumtassel::decode(code, length, symbols, room, *allowance, work, message),
+        Some(sheet) => {
+            plumtassel::decode_sheet(code, length, symbols, room, *allowance, work, message, sheet)
         }
     })
 }
 
 /// For the bench, as above.
 pub fn check(code: &Code, length: usize, symbols: &[i8], sheet: &[u8], message: &mut [u8]) -> Answer {
-    // Safe: every pointer goes with the length of its slice.
-    answer(unsafe {
-        plumtassel_check(
-            face_code(code),
-            length,
-            symbols.as_ptr(),
-            symbols.len(),
-            sheet.as_ptr(),
-            sheet.len(),
-            message.as_mut_ptr(),
-            message.len(),
-        )
-    })
+    told(plumtassel::check(face_code(code), length, symbols, sheet, message))
 }
 
 fn unsigned(symbols: &[i8]) -> Vec<u8> {
@@ -284,7 +157,7 @@ impl Face {
                 let written = self.symbols.output(*out, late);
                 // Safe: every pointer goes with the length of its buffer. So below.
                 let told = unsafe {
-                    plumtassel_encode(
+                    raw::plumtassel_encode(
                         face_code(code),
                         self.message.address(given),
                         given.length,
@@ -304,7 +177,7 @@ impl Face {
                 let claim = self.sheet.input(sheet, late);
                 let written = self.message.output(*message, late);
                 let told = unsafe {
-                    plumtassel_check(
+                    raw::plumtassel_check(
                         face_code(code),
                         *length as usize,
                         self.symbols.address(received),
@@ -324,14 +197,14 @@ impl Face {
                 let readings: Vec<u8> = readings.iter().flat_map(|bits| bits.to_ne_bytes()).collect();
                 let given = self.readings.input(&readings, late);
                 let written = self.symbols.output(*symbols, late);
-                let front = FaceFrontEnd {
+                let front = raw::FrontEnd {
                     form: front_end.form,
                     offset: f32::from_bits(front_end.offset),
                     gain: f32::from_bits(front_end.gain),
                     threshold: f32::from_bits(front_end.threshold),
                 };
                 let told = unsafe {
-                    plumtassel_front(
+                    raw::plumtassel_front(
                         front,
                         self.readings.address(given),
                         given.length / 4,
@@ -341,7 +214,7 @@ impl Face {
                 };
                 kept("readings", &mut self.readings, given, &readings)?;
                 let symbols = after("symbols", &mut self.symbols, written)?;
-                let FaceReport { number, count, index, lowest, highest } = told;
+                let Report { number, count, index, lowest, highest } = told;
                 let numbers = vec![number, count, index, lowest.to_bits(), highest.to_bits()];
                 Ok(Outcome { numbers, buffers: vec![symbols] })
             }
@@ -364,7 +237,7 @@ impl Face {
         let (length, room) = (asked.length as usize, asked.room as usize);
         let told = unsafe {
             match sheet {
-                None => plumtassel_decode(
+                None => raw::plumtassel_decode(
                     code,
                     length,
                     self.symbols.address(received),
@@ -376,7 +249,7 @@ impl Face {
                     self.message.address(written),
                     written.length,
                 ),
-                Some(_) => plumtassel_decode_sheet(
+                Some(_) => raw::plumtassel_decode_sheet(
                     code,
                     length,
                     self.symbols.address(received),

@@ -12,6 +12,9 @@ pub mod face;
 pub mod front;
 pub mod linear;
 pub mod osmocom;
+#[cfg(feature = "face")]
+#[path = "../../include/plumtassel.rs"]
+pub mod plumtassel;
 pub mod random;
 pub mod sheet;
 pub mod shrink;
