@@ -65,7 +65,12 @@ fn character(letter: u32) {
 pub fn found(metric: u32, steps: u32) {
     text(b"metric ");
     word(metric);
-    text(b", and no other message has as little; ");
+    text(b", and no other message has as little");
+    expanded(steps);
+}
+
+fn expanded(steps: u32) {
+    text(b"; ");
     word(steps);
     text(b" nodes expanded\n");
 }
@@ -79,7 +84,7 @@ pub fn too_long() {
     text(b"no block: the longest has 864 symbols\n");
 }
 
-// A refusal by its number, and what it means.
+// A refusal by its number, what it means, and the numbers that it hands back.
 pub fn refused(answer: Decoded) {
     match answer {
         Decoded::Done {
@@ -88,11 +93,19 @@ pub fn refused(answer: Decoded) {
         } => text(b"done\n"),
         Decoded::BadCode => text(b"refused 1: no house code has this row\n"),
         Decoded::BadSize => text(b"refused 2: L or the number of symbols is not as stated\n"),
-        Decoded::NoRoom { steps: _ } => text(b"refused 3: the search needs more room\n"),
-        Decoded::NoAllowance { steps: _ } => text(b"refused 4: the allowance is spent\n"),
-        Decoded::Tied {
-            metric: _,
-            steps: _,
-        } => text(b"refused 5: two messages are as near as each other\n"),
+        Decoded::NoRoom { steps } => stopped(b"refused 3: the search needs more room", steps),
+        Decoded::NoAllowance { steps } => stopped(b"refused 4: the allowance is spent", steps),
+        Decoded::Tied { metric, steps } => tied(metric, steps),
     }
+}
+
+fn stopped(why: &[u8], steps: u32) {
+    text(why);
+    expanded(steps);
+}
+
+fn tied(metric: u32, steps: u32) {
+    text(b"refused 5: tied, two or more messages have the least metric, ");
+    word(metric);
+    expanded(steps);
 }
