@@ -13,7 +13,7 @@ use lib.Ieee.Scale.{finite}
 use lib.ListN.{length, getD, take, drop, set, drop-of-length-le}
 use lib.Seq.{drop-cons, set-at, take-suc, append-snoc, length-take-le}
 use Rattle.front.specs.Reports.{seen, seenAll, reportOf}
-use Rattle.front.specs.Answers.{finiteRun}
+use Rattle.front.specs.Fronting.{finiteRun}
 use Rattle.front.specs.declared.Report.{Report}
 
 -- a run that takes a reading and is as long as the block

@@ -1,7 +1,7 @@
 pub mod Rounding
 pub mod Numbers
 pub mod Blocks
-pub mod Settled
+pub mod Frontings
 pub mod Meaning
 pub mod Cases
 pub mod Reported

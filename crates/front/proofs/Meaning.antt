@@ -17,7 +17,7 @@ use lib.Ieee.Bits.{ofBits-toBits}
 use lib.Ieee.Exact.{HasValue, odd-sign}
 use lib.Ieee.Scale.{finite}
 use Rattle.front.specs.Limits.{furthest}
-use Rattle.front.specs.Rounding.{negative, field, parts, unit, rounded}
+use Rattle.front.specs.Rounding.{negative, field, parts, unit, nearest, rounded}
 
 -- twice as many of half the size
 halved : (x : Float) (s : Bool) (a c : ℕ) → HasValue x s a c → HasValue x s (a * 2) (c * 2)
@@ -55,6 +55,6 @@ of-float x f h =
 
 -- an infinite product goes to the end of its sign
 pub of-infinity : (s : Bool) → rounded (Ieee.toBits binary32 (inf s)) ≡ cond s (negℤ (pos furthest)) (pos furthest)
-unfolding rounded Ieee.toBits
+unfolding nearest rounded Ieee.toBits
 of-infinity true = refl
 of-infinity false = refl

@@ -1,5 +1,5 @@
--- Whatever comes in, the two floats that are handed back are finite: on a refusal they are +0.0, and a report is made only of a block whose readings all are.
--- So no NaN leaves `front`, and equal reports have equal bits. Assumes nothing.
+-- Whatever comes in, the two floats that are handed back are finite: on a refusal they are +0.0, and a report is made only of a block
+-- whose readings all are. So no NaN leaves `front`, and equal reports have equal bits. Assumes nothing.
 use mathlib.Core.Path.{_≡_, refl, sym, ap, _∙_}
 use mathlib.Core.Bool.{Bool, true, false, cond, not}
 use mathlib.Core.List.{List, [], _∷_}
@@ -14,20 +14,24 @@ use lib.Ieee.Bits.{ofBits-toBits}
 use lib.Ieee.Scale.{finite}
 use Rattle.front.specs.Symbols.{good}
 use Rattle.front.specs.Reports.{seen, seenAll, reportOf}
-use Rattle.front.specs.Answers.{Told, sizesBad, finiteRun, fronted}
+use Rattle.front.specs.Fronting.{Fronting, sizesFit, finiteRun, fronting}
 use Rattle.front.specs.declared.FrontEnd.{FrontEnd}
 use Rattle.front.specs.declared.Report.{Report}
 use Rattle.front.proofs.Blocks.{long, run-le}
 
--- ---- a report of finite readings
 abbrev Finite : Float → Float → Type 0
 Finite lowest highest = T (finite lowest) × T (finite highest)
 
+-- ---- a report of finite readings
+
+-- the reading that is seen, or what was there: finite either way
 one-of : (test : Bool) (x y : Float) → T (finite x) → T (finite y) → T (finite (cond test x y))
 one-of true x y p q = p
 one-of false x y p q = q
 
-seen-finite : (report : Report) (readings : List Float) → Finite (report .lowest) (report .highest) → finiteRun readings ≡ length readings → Finite (seenAll report readings .lowest) (seenAll report readings .highest)
+-- for the step from a report to that of more readings
+seen-finite : (report : Report) (readings : List Float) → Finite (report .lowest) (report .highest) → finiteRun readings ≡ length readings
+    → Finite (seenAll report readings .lowest) (seenAll report readings .highest)
 unfolding seenAll finiteRun
 seen-finite report [] h whole = h
 seen-finite report (x ∷ xs) h whole =
@@ -44,17 +48,19 @@ report-finite (x ∷ xs) whole =
     seen-finite (record { lowest = x; highest = x }) xs (more .0, more .0) (more .1)
 
 -- ---- what is handed back
-abbrev Handed : Told × List ℤ → Type 0
-Handed result = Finite (result .0 .lowest) (result .0 .highest)
 
-row : (test : Bool) (result other : Told × List ℤ) → Handed result → (test ≡ false → Handed other) → Handed (cond test result other)
-row true result other p q = p
-row false result other p q = q refl
+abbrev FiniteReport : Fronting → Type 0
+FiniteReport f = Finite (f .lowest) (f .highest)
 
-pub handed-back-finite : (frontEnd : FrontEnd) (readings : List Float) (symbols : List ℤ) → Handed (fronted frontEnd readings symbols)
-unfolding fronted Ieee.ofBits
+-- for a row of the definition: what is handed back there, and the rows below it once its test is passed
+row : (test : Bool) (given other : Fronting) → FiniteReport given → (test ≡ false → FiniteReport other) → FiniteReport (cond test given other)
+row true given other p q = p
+row false given other p q = q refl
+
+pub handed-back-finite : (frontEnd : FrontEnd) (readings : List Float) (symbols : List ℤ) → FiniteReport (fronting frontEnd readings symbols)
+unfolding fronting Ieee.ofBits
 handed-back-finite frontEnd readings symbols =
-    row (sizesBad (length readings) (length symbols)) _ _ (tt, tt)
+    row (not (sizesFit (length readings) (length symbols))) _ _ (tt, tt)
     (λ _. row (not (good frontEnd)) _ _ (tt, tt)
     (λ _. row (ltb (finiteRun readings) (length readings)) _ _ (tt, tt)
     (λ passed. report-finite readings (le-antisymm (run-le readings) (ltb-false (finiteRun readings) (length readings) passed)))))

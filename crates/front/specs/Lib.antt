@@ -2,5 +2,5 @@ pub mod Limits
 pub mod Rounding
 pub mod Symbols
 pub mod Reports
-pub mod Answers
+pub mod Fronting
 pub mod Convertible

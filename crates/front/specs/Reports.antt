@@ -1,13 +1,17 @@
--- "With the symbols goes a report of the lowest and highest reading; of equal ones the first seen." To be believed.
--- Of the two zeros neither is lower, so the sign of a zero in the report is that of the first seen. Definitions only. Assumes nothing.
+-- The report of a block: document 01, 'With the symbols goes a report of the lowest and highest reading; of equal ones the first seen.'
+-- Believed. Of the two zeros neither is lower, so the sign of a zero in the report is that of the first seen. Assumes nothing.
 use mathlib.Core.Bool.{cond}
 use mathlib.Core.List.{List, [], _∷_}
 use lib.Ieee as Ieee
 use lib.Ieee.{Float}
-use Rattle.front.specs.Symbols.{zero}
+use Rattle.front.specs.Symbols.{plusZero}
 use Rattle.front.specs.declared.Report.{Report}
 
--- a report after one more reading: only a lower or a higher one takes the place of what was seen before
+-- where there is none: 'Values not named in a row are 0.'
+abbrev pub noReport : Report
+noReport = record { lowest = plusZero; highest = plusZero }
+
+-- after one more reading: only a lower or a higher one takes the place of what was seen before
 abbrev pub seen : Report → Float → Report
 seen report reading =
     record {
@@ -22,6 +26,5 @@ seenAll report (reading ∷ readings) = seenAll (seen report reading) readings
 
 -- The first reading is at first the lowest and the highest. (A block has one.)
 unfoldable pub reportOf : List Float → Report
-unfolding seenAll
-reportOf [] = record { lowest = zero; highest = zero }
+reportOf [] = noReport
 reportOf (reading ∷ readings) = seenAll (record { lowest = reading; highest = reading }) readings

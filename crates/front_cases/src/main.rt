@@ -31,7 +31,7 @@ fn told(number: usize, count: usize, index: usize, lowest: f32, highest: f32) {
 fn answered(answer: Fronted) {
     match answer {
         Fronted::Done { count, report } => told(0, count, 0, report.lowest, report.highest),
-        Fronted::Sizes => told(2, 0, 0, 0.0, 0.0),
+        Fronted::BadSize => told(2, 0, 0, 0.0, 0.0),
         Fronted::Malformed => told(6, 0, 0, 0.0, 0.0),
         Fronted::NotFinite { index } => told(8, 0, index, 0.0, 0.0),
     }

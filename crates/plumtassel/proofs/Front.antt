@@ -1,75 +1,84 @@
 -- Laws of the front end in the caller's structs: a form's choice is what the definition says, and counts and indexes fit. Assumes nothing.
 use mathlib.Core.Path.{_≡_, refl}
-use mathlib.Core.Bool.{Bool, true, false, cond, not, _||_, true≢false}
-use mathlib.Core.List.{List, _++_, map}
+use mathlib.Core.Bool.{Bool, true, false, cond, not}
+use mathlib.Core.List.{List}
 use Prim.Native.Nat.{_≤_}
 use native.Mathlib.Omega.{arith}
-use lib.Dec.{eqb, ltb}
+use lib.Dec.{eqb, ltb, leb}
 use lib.IntN.{ℤ}
-use lib.ListN.{length, drop}
+use lib.ListN.{length}
 use lib.Ieee as Ieee
 use lib.Ieee.{Float}
-use borrow.Author.Tests.{ltb-true, ltb-false}
+use borrow.Author.Tests.{ltb-true, ltb-false, leb-true}
+use Rattle.codes.proofs.Rules.{both}
 use Rattle.front.specs.Limits.{mostReadings}
-use Rattle.front.specs.Symbols.{zero, good, symbolOf}
-use Rattle.front.specs.Reports.{reportOf}
-use Rattle.front.specs.Answers.{Told, told, refusal, sizesBad, finiteRun, fronted}
+use Rattle.front.specs.Symbols.{plusZero, good}
+use Rattle.front.specs.Reports.{noReport}
+use Rattle.front.specs.Fronting.{Fronting, handed, told, sizesFit, finiteRun, fronting}
 use Rattle.front.specs.declared.FrontEnd as front
 use Rattle.front.specs.declared.FrontEnd.the-variants.{Gain, Offset, Threshold}
 use Rattle.front.specs.declared.Fronted.{Fronted}
-use Rattle.front.specs.declared.Fronted.the-variants.{Done, Sizes, Malformed, NotFinite}
+use Rattle.front.specs.declared.Fronted.the-variants.{Done, BadSize, Malformed, NotFinite}
+use Rattle.front.proofs.Frontings.{fronting-bad-size, fronting-malformed, fronting-not-finite, fronting-done}
 use Rattle.plumtassel.specs.declared.FrontEnd.{FrontEnd}
-use Rattle.plumtassel.specs.Fronts.{fronting, reported}
+use Rattle.plumtassel.specs.Fronts.{structFronting, reported}
 use Rattle.plumtassel.specs.Made.{choice, frontReport}
 
 -- for every return: the struct and the buffer say what `told` says
-pub front-told : (f : Fronted) (symbols : List ℤ) → reported (told f, symbols) ≡ (frontReport f, symbols)
+pub front-told : (f : Fronted) (symbols : List ℤ) → reported (told f symbols) ≡ (frontReport f, symbols)
+unfolding told
 front-told (Done count report) symbols = refl
-front-told Sizes symbols = refl
+front-told BadSize symbols = refl
 front-told Malformed symbols = refl
 front-told (NotFinite index) symbols = refl
 
--- a gain of zero is refused as a form that there is none of
-zero-gain : (readings : List Float) (symbols : List ℤ) → fronted (Gain zero) readings symbols ≡ cond (sizesBad (length readings) (length symbols)) (refusal 2 0, symbols) (refusal 6 0, symbols)
-unfolding fronted good Ieee.ofBits Ieee.lt
-zero-gain readings symbols = refl
+-- ---- the form
 
--- what is done with the chosen front end is what the struct means
-pub choice-fronted : (f : FrontEnd) (readings : List Float) (symbols : List ℤ) → fronted (choice f) readings symbols ≡ fronting f readings symbols
-unfolding choice fronting
-choice-fronted f readings symbols = row (eqb (f .form) 0) (eqb (f .form) 1) (eqb (f .form) 2)
-  where
-    row : (a b d : Bool) → fronted (cond a (Gain (f .gain)) (cond b (Offset (f .offset) (f .gain)) (cond d (Threshold (f .threshold)) (Gain zero)))) readings symbols
-        ≡ cond a (fronted (Gain (f .gain)) readings symbols) (cond b (fronted (Offset (f .offset) (f .gain)) readings symbols) (cond d (fronted (Threshold (f .threshold)) readings symbols) (cond (sizesBad (length readings) (length symbols)) (refusal 2 0, symbols) (refusal 6 0, symbols))))
-    row true b d = refl
-    row false true d = refl
-    row false false true = refl
-    row false false false = zero-gain readings symbols
+module _ (readings : List Float) (symbols : List ℤ) where
+  -- what the struct means where its form is none of the three
+  abbrev formless : Fronting
+  formless = cond (not (sizesFit (length readings) (length symbols))) (handed 2 0 0 noReport symbols) (handed 6 0 0 noReport symbols)
 
--- of two tests joined, neither holds
-neither : (a b : Bool) → (a || b) ≡ false → (a ≡ false) × (b ≡ false)
-neither true b h = absurd (true≢false h)
-neither false b h = (refl, h)
+  -- a gain of zero is refused as a form that there is none of
+  zero-gain : fronting (Gain plusZero) readings symbols ≡ formless
+  unfolding fronting good Ieee.ofBits Ieee.lt
+  zero-gain = refl
 
--- for the casts: what the definition gives as a count or an index fits
-pub record Small (t : Told) : Type 0 where
-  pub count : t .count ≤ mostReadings
-  pub index : t .index ≤ mostReadings
+  -- what is done with the chosen front end is what the struct means
+  pub choice-fronting : (f : FrontEnd) → fronting (choice f) readings symbols ≡ structFronting f readings symbols
+  unfolding choice structFronting
+  choice-fronting f = row (eqb (f .form) 0) (eqb (f .form) 1) (eqb (f .form) 2)
+    where
+      row : (a b d : Bool)
+          → fronting (cond a (Gain (f .gain)) (cond b (Offset (f .offset) (f .gain)) (cond d (Threshold (f .threshold)) (Gain plusZero)))) readings symbols
+          ≡ cond a (fronting (Gain (f .gain)) readings symbols)
+          (cond b (fronting (Offset (f .offset) (f .gain)) readings symbols) (cond d (fronting (Threshold (f .threshold)) readings symbols) formless))
+      row true b d = refl
+      row false true d = refl
+      row false false true = refl
+      row false false false = zero-gain
+
+-- ---- the casts
+
+-- what is handed back as a count or an index fits
+pub record Small (f : Fronting) : Type 0 where
+  pub count : f .count ≤ mostReadings
+  pub index : f .index ≤ mostReadings
 
 module _ (f : front.FrontEnd) (readings : List Float) (symbols : List ℤ) where
-  -- the four rows, whatever is written
-  row : (a b d : Bool) (written : List ℤ) → sizesBad (length readings) (length symbols) ≡ a → ltb (finiteRun readings) (length readings) ≡ d
-      → Small (cond {A = Told × List ℤ} a (refusal 2 0, symbols) (cond (not b) (refusal 6 0, symbols) (cond d (refusal 8 (finiteRun readings), symbols) (told (Done (length readings) (reportOf readings)), written))) .0)
-  row true b d written p q = record { count = omega arith; index = omega arith }
-  row false false d written p q = record { count = omega arith; index = omega arith }
-  row false true true written p q =
-      let long = ltb-false mostReadings (length readings) (neither (ltb mostReadings (length readings)) _ (neither (ltb (length readings) 1) _ p .1) .0) in
-      record { count = omega arith; index = omega (arith, ltb-true (finiteRun readings) (length readings) q) }
-  row false true false written p q =
-      let long = ltb-false mostReadings (length readings) (neither (ltb mostReadings (length readings)) _ (neither (ltb (length readings) 1) _ p .1) .0) in
-      record { count = omega arith; index = omega arith }
+  longest : sizesFit (length readings) (length symbols) ≡ true → length readings ≤ mostReadings
+  longest h = leb-true (length readings) mostReadings (both (leb (length readings) mostReadings) _ (both (leb 1 (length readings)) _ h .1) .0)
 
-  pub fronted-small : Small (fronted f readings symbols .0)
-  unfolding fronted
-  fronted-small =
-      row (sizesBad (length readings) (length symbols)) (good f) (ltb (finiteRun readings) (length readings)) (map (symbolOf f) readings ++ drop (length readings) symbols) refl refl
+  -- for each row of the definition
+  row-small : (a b d : Bool) → sizesFit (length readings) (length symbols) ≡ a → good f ≡ b → ltb (finiteRun readings) (length readings) ≡ d
+      → Small (fronting f readings symbols)
+  row-small false b d p q r = rw (fronting-bad-size f readings symbols p) (record { count = omega arith; index = omega arith })
+  row-small true false d p q r = rw (fronting-malformed f readings symbols p q) (record { count = omega arith; index = omega arith })
+  row-small true true true p q r =
+      let few = ltb-true (finiteRun readings) (length readings) r in
+      rw (fronting-not-finite f readings symbols p q few) (record { count = omega arith; index = omega (arith, few, longest p) })
+  row-small true true false p q r =
+      rw (fronting-done f readings symbols p q (ltb-false (finiteRun readings) (length readings) r)) (record { count = longest p; index = omega arith })
+
+  pub fronting-small : Small (fronting f readings symbols)
+  fronting-small = row-small (sizesFit (length readings) (length symbols)) (good f) (ltb (finiteRun readings) (length readings)) refl refl refl

@@ -1,11 +1,11 @@
--- What the inner functions of the face make of each answer: the step between an operation's enum and the caller's struct. Not for the reader: no exported
--- function's contract cites it. Assumes nothing.
+-- What the inner functions of the face make of each answer: the step between an operation's enum and the caller's struct. Not believed:
+-- no exported function's contract cites it. Assumes nothing.
 use mathlib.Core.Bool.{cond}
 use Prim.Native.Nat.{ℕ}
 use lib.Dec.{eqb}
 use Rattle.codes.specs.declared.encoder.Encoded.{Encoded}
 use Rattle.codes.specs.declared.encoder.Encoded.the-variants as encoded
-use Rattle.front.specs.Symbols.{zero}
+use Rattle.front.specs.Symbols.{plusZero}
 use Rattle.front.specs.declared.FrontEnd as front
 use Rattle.front.specs.declared.FrontEnd.the-variants.{Gain, Offset, Threshold}
 use Rattle.front.specs.declared.Fronted.{Fronted}
@@ -68,13 +68,14 @@ choice f =
     cond (eqb (f .form) 0) (Gain (f .gain))
     (cond (eqb (f .form) 1) (Offset (f .offset) (f .gain))
     (cond (eqb (f .form) 2) (Threshold (f .threshold))
-    (Gain zero)))
+    (Gain plusZero)))
 
 abbrev pub refusedReading : ℕ → ℕ → Report
-refusedReading number index = record { number = number; count = 0; index = index; lowest = zero; highest = zero }
+refusedReading number index = record { number = number; count = 0; index = index; lowest = plusZero; highest = plusZero }
 
 abbrev pub frontReport : Fronted → Report
-frontReport (fronted.Done count report) = record { number = 0; count = count; index = 0; lowest = report .lowest; highest = report .highest }
-frontReport fronted.Sizes = refusedReading 2 0
+frontReport (fronted.Done count report) =
+    record { number = 0; count = count; index = 0; lowest = report .lowest; highest = report .highest }
+frontReport fronted.BadSize = refusedReading 2 0
 frontReport fronted.Malformed = refusedReading 6 0
 frontReport (fronted.NotFinite index) = refusedReading 8 index

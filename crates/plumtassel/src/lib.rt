@@ -20,8 +20,9 @@ ghost use Rattle.search.specs.Decoding.{decoding};
 ghost use Rattle.sheets.specs.Checking.{checking};
 ghost use Rattle.writer.specs.Sheeting.{sheeting};
 ghost use Rattle.plumtassel.specs.Face.{faceCode, codeOf, refusal, encoded, decoded, sheeted, checked};
-ghost use Rattle.plumtassel.specs.Fronts.{fronting, reported};
-ghost use Rattle.plumtassel.specs.Made.{longestBlock, longestSheet, encoderAnswer, searchAnswer, decoderAnswer, sheetAnswer, checkAnswer, choice, refusedReading, frontReport};
+ghost use Rattle.plumtassel.specs.Fronts.{structFronting, reported};
+ghost use Rattle.plumtassel.specs.Made.{longestBlock, longestSheet, encoderAnswer, searchAnswer, decoderAnswer};
+ghost use Rattle.plumtassel.specs.Made.{sheetAnswer, checkAnswer, choice, refusedReading, frontReport};
 
 // n outputs, memory m, and room for four generators, of which the first n count.
 #[repr(C)]
@@ -95,7 +96,10 @@ pub extern "C" fn plumtassel_decode(
     work: &mut [u64],
     message: &mut [u8],
 ) -> Answer
-    ensures { λ r. do ⌜ (r, now (message .exit)) ≡ decoded (decoding (codeOf code) length (now (symbols .entry)) room allowance (← ⟦work.len()⟧ .entry) (now (message .entry))) ⌝ }
+    ensures { λ r. do
+      words ← ⟦work.len()⟧ .entry
+      ⌜ (r, now (message .exit))
+          ≡ decoded (decoding (codeOf code) length (now (symbols .entry)) room allowance words (now (message .entry))) ⌝ }
 {
     let answer = decode(
         opened(code),
@@ -121,7 +125,10 @@ pub extern "C" fn plumtassel_decode_sheet(
     message: &mut [u8],
     sheet: &mut [u8],
 ) -> Answer
-    ensures { λ r. do ⌜ (r, now (message .exit), now (sheet .exit)) ≡ sheeted (sheeting (codeOf code) length (now (symbols .entry)) room allowance (← ⟦work.len()⟧ .entry) (now (message .entry)) (now (sheet .entry))) ⌝ }
+    ensures { λ r. do
+      words ← ⟦work.len()⟧ .entry
+      let handed = sheeting (codeOf code) length (now (symbols .entry)) room allowance words (now (message .entry)) (now (sheet .entry))
+      ⌜ (r, now (message .exit), now (sheet .exit)) ≡ sheeted handed ⌝ }
 {
     let answer = decode_sheet(
         opened(code),
@@ -145,7 +152,8 @@ pub extern "C" fn plumtassel_check(
     sheet: &[u8],
     message: &mut [u8],
 ) -> Answer
-    ensures { λ r. ⌜ (r, now (message .exit)) ≡ checked (checking (codeOf code) length (now (symbols .entry)) (now (sheet .entry)) (now (message .entry))) ⌝ }
+    ensures { λ r. ⌜ (r, now (message .exit))
+        ≡ checked (checking (codeOf code) length (now (symbols .entry)) (now (sheet .entry)) (now (message .entry))) ⌝ }
 {
     let answer = check(opened(code), length, symbols, sheet, message);
     check_answer(answer)
@@ -158,7 +166,7 @@ pub extern "C" fn plumtassel_front(
     readings: &[f32],
     symbols: &mut [i8],
 ) -> Report
-    ensures { λ r. ⌜ (r, now (symbols .exit)) ≡ reported (fronting «front_end» (now (readings .entry)) (now (symbols .entry))) ⌝ }
+    ensures { λ r. ⌜ (r, now (symbols .exit)) ≡ reported (structFronting «front_end» (now (readings .entry)) (now (symbols .entry))) ⌝ }
 {
     let answer = front(chosen(front_end), readings, symbols);
     front_report(answer)
@@ -304,7 +312,7 @@ fn front_report(answer: Fronted) -> Report
             lowest: report.lowest,
             highest: report.highest,
         },
-        Fronted::Sizes => refused_reading(2, 0),
+        Fronted::BadSize => refused_reading(2, 0),
         Fronted::Malformed => refused_reading(6, 0),
         Fronted::NotFinite { index } => refused_reading(8, index as u32),
     }

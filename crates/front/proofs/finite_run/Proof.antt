@@ -6,7 +6,7 @@ use native.Mathlib.Omega.{arith}
 use borrow.Author.Needs.{needs}
 use borrow.Author.Tests.{not-true, not-false}
 use lib.ListN.{length, drop}
-use Rattle.front.specs.Answers.{finiteRun}
+use Rattle.front.specs.Fronting.{finiteRun}
 use Rattle.front.proofs.Blocks.{run-next, run-ends, run-done}
 use Rattle.front.proofs.finite_run.Statement.{statement}
 use Rattle.front.proofs.finite_run.Tie as tie

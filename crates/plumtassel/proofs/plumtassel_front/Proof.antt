@@ -3,12 +3,12 @@ use mathlib.Core.Path.{_≡_, sym, ap, _∙_}
 use mathlib.Core.List.{List}
 use lib.IntN.{ℤ}
 use borrow.Author.Needs.{needs}
-use Rattle.front.specs.Answers.{fronted}
+use Rattle.front.specs.Fronting.{fronting}
 use Rattle.front.specs.declared.FrontEnd as front
 use Rattle.plumtassel.specs.declared.Report.{Report}
 use Rattle.plumtassel.specs.Fronts.{reported}
 use Rattle.plumtassel.specs.Made.{choice, frontReport}
-use Rattle.plumtassel.proofs.Front.{front-told, choice-fronted, fronted-small}
+use Rattle.plumtassel.proofs.Front.{front-told, choice-fronting, fronting-small}
 use Rattle.plumtassel.proofs.plumtassel_front.Statement.{statement}
 use Rattle.plumtassel.proofs.plumtassel_front.Tie as tie
 
@@ -16,11 +16,16 @@ abbrev entry : tie.After-front → tie.Start
 entry c = c .before .before .before .before
 
 -- what `front` said, in the struct
-said : (c : tie.After-front) → let s = entry c in (frontReport (c .front .result), c .front .last .1 .1 .0) ≡ reported (fronted (choice (s .args .front-end)) (s .args .readings .now) (s .args .symbols .now))
+said : (c : tie.After-front)
+    → let s = entry c in
+    (frontReport (c .front .result), c .front .last .1 .1 .0)
+    ≡ reported (fronting (choice (s .args .front-end)) (s .args .readings .now) (s .args .symbols .now))
 said c =
     let s = entry c in
     sym (front-told (c .front .result) (c .front .last .1 .1 .0))
-    ∙ ap reported (c .front .ensures ∙ ap (λ (f : front.FrontEnd). fronted f (s .args .readings .now) (s .args .symbols .now)) (c .before .before .chosen .ensures))
+    ∙ ap reported
+    (c .front .ensures
+    ∙ ap (λ (f : front.FrontEnd). fronting f (s .args .readings .now) (s .args .symbols .now)) (c .before .before .chosen .ensures))
 
 chosen-requires : tie.Need-chosen-requires
 chosen-requires c κs = search needs
@@ -32,7 +37,7 @@ front-report-requires : tie.Need-front-report-requires
 front-report-requires c κs =
     let k = c .before in
     let s = entry k in
-    let small = fronted-small (choice (s .args .front-end)) (s .args .readings .now) (s .args .symbols .now) in
+    let small = fronting-small (choice (s .args .front-end)) (s .args .readings .now) (s .args .symbols .now) in
     let e = said k in
     (rw (ap (λ (p : Report × List ℤ). p .0 .count) e) (small .count), rw (ap (λ (p : Report × List ℤ). p .0 .index) e) (small .index))
 
@@ -45,7 +50,7 @@ returns c =
     let s = entry k in
     ap (λ (r : Report). (r, k .front .last .1 .1 .0)) (c .front-report .ensures)
     ∙ said k
-    ∙ ap reported (choice-fronted (s .args .front-end) (s .args .readings .now) (s .args .symbols .now))
+    ∙ ap reported (choice-fronting (s .args .readings .now) (s .args .symbols .now) (s .args .front-end))
 
 pub plumtassel-front-spec : {M : Type 1} → statement M
 plumtassel-front-spec =
