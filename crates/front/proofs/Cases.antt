@@ -17,11 +17,11 @@ use Rattle.front.specs.declared.FrontEnd.the-variants.{Gain}
 abbrev bits : ℕ → Float
 bits = Ieee.ofBits binary32
 
-readings : List Float
+abbrev readings : List Float
 readings = bits 0x3e80_0000 ∷ bits 0xbe80_0000 ∷ bits 0x427c_0000 ∷ bits 0x427d_0000 ∷ bits 0x447a_0000 ∷ []
 
 -- the sixth place of the buffer stays as it is
-case-15 : fronting (Gain (bits 0x4000_0000)) readings (pos 9 ∷ pos 9 ∷ pos 9 ∷ pos 9 ∷ pos 9 ∷ pos 9 ∷ []) ≡
+pub case-15 : fronting (Gain (bits 0x4000_0000)) readings (pos 9 ∷ pos 9 ∷ pos 9 ∷ pos 9 ∷ pos 9 ∷ pos 9 ∷ []) ≡
     handed 0 5 0 (record { lowest = bits 0xbe80_0000; highest = bits 0x447a_0000 }) (pos 1 ∷ negsuc 0 ∷ pos 126 ∷ pos 127 ∷ pos 127 ∷ pos 9 ∷ [])
-unfolding readings nearest rounded good symbolOf seenAll reportOf finiteRun fronting Ieee.mul Ieee.toBits Ieee.ofBits Ieee.lt
+unfolding nearest rounded good symbolOf seenAll reportOf finiteRun fronting Ieee.mul Ieee.toBits Ieee.ofBits Ieee.lt
 case-15 = refl

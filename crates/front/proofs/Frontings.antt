@@ -34,7 +34,8 @@ module _ (frontEnd : FrontEnd) (readings : List Float) (symbols : List ℤ) wher
     fronting-not-finite g few = rw (h, g, lt-ltb _ _ few)
 
     pub fronting-done : good frontEnd ≡ true → length readings ≤ finiteRun readings
-        → fronting frontEnd readings symbols ≡ handed 0 (length readings) 0 (reportOf readings) (map (symbolOf frontEnd) readings ++ drop (length readings) symbols)
+        → fronting frontEnd readings symbols
+        ≡ handed 0 (length readings) 0 (reportOf readings) (map (symbolOf frontEnd) readings ++ drop (length readings) symbols)
     unfolding fronting
     fronting-done g all = rw (h, g, le-ltb _ _ all)
 

@@ -1,3 +1,4 @@
+pub mod Choices
 pub mod Rounding
 pub mod Numbers
 pub mod Blocks

@@ -1,5 +1,6 @@
--- No product of a good front end is a NaN. A difference of finite floats is finite or an infinity, since only two infinities make a NaN of it; and a product of
--- that with a finite gain is no NaN, since only a zero times an infinity makes one, and the gain is above zero. Assumes nothing.
+-- No product of a good front end is a NaN. A difference of finite floats is finite or an infinity, since only two infinities make a NaN
+-- of it; and a product of that with a finite gain is no NaN, since only a zero times an infinity makes one, and the gain is above zero.
+-- Assumes nothing.
 use mathlib.Core.Bool.{Bool, true, false, not, cond, _&&_, Bool·beq}
 use Prim.Native.Nat.{ℕ, zero, suc, _+_, _-_, _*_, _/_, _%_, _^_, compare}
 use native.Mathlib.Omega.{arith}
@@ -10,14 +11,13 @@ use lib.Ieee as Ieee
 use lib.Ieee.{Float, Format, nan, inf, fin, binary32, isNan, up, down}
 use lib.Ieee.Scale.{finite}
 use Rattle.front.specs.Symbols.{goodGain}
+use Rattle.front.proofs.Choices.{cond-in}
 
+-- a float that is no NaN
 abbrev Number : Float → Type 0
 Number x = T (not (isNan x))
 
--- ---- what rounds is no NaN
-cond-number : (b : Bool) (x y : Float) → Number x → Number y → Number (cond b x y)
-cond-number true x y p q = p
-cond-number false x y p q = q
+-- ---- what rounds is no NaN: each step of the kit's rounding, from the inside out
 
 odd-number : (d : ℕ) (s : Bool) (q k l : ℕ) → Number (Ieee.odd d s q k l)
 unfolding Ieee.odd isNan
@@ -27,7 +27,9 @@ odd-number d s (suc q) k l = tt
 units-number : (f : Format) (s : Bool) (q k : ℕ) → Number (Ieee.units f s q k)
 unfolding Ieee.units isNan
 units-number f s q k =
-    cond-number (ltb (q * 2 ^ k) (2 ^ (Ieee.low f + suc (Ieee.emax f)))) (Ieee.odd (suc (Ieee.prec f)) s q k (Ieee.low f)) (inf s) (odd-number (suc (Ieee.prec f)) s q k (Ieee.low f)) tt
+    let fits = ltb (q * 2 ^ k) (2 ^ (Ieee.low f + suc (Ieee.emax f))) in
+    let d = suc (Ieee.prec f) in
+    cond-in Number fits (Ieee.odd d s q k (Ieee.low f)) (inf s) (λ _. odd-number d s q k (Ieee.low f)) (λ _. tt)
 
 round-number : (f : Format) (s : Bool) (n d : ℕ) → Number (Ieee.round f s n d)
 unfolding Ieee.round
@@ -40,16 +42,19 @@ unfolding Ieee.sum
 sum-number f s a t b c =
     let falls = Ieee.round f t (b - a) c in
     let stays = Ieee.round f (s && ltb b a) (a - b) c in
-    cond-number (Bool·beq s t) (Ieee.round f s (a + b) c) (cond (ltb a b) falls stays) (round-number f s (a + b) c)
-    (cond-number (ltb a b) falls stays (round-number f t (b - a) c) (round-number f (s && ltb b a) (a - b) c))
+    cond-in Number (Bool·beq s t) (Ieee.round f s (a + b) c) (cond (ltb a b) falls stays) (λ _. round-number f s (a + b) c)
+    (λ _. cond-in Number (ltb a b) falls stays (λ _. round-number f t (b - a) c) (λ _. round-number f (s && ltb b a) (a - b) c))
 
 -- ---- the two operations
+
+-- for a reading that is multiplied as it is
 pub finite-number : (x : Float) → T (finite x) → Number x
 unfolding isNan
 finite-number nan h = absurd h
 finite-number (inf s) h = absurd h
 finite-number (fin s m e) h = tt
 
+-- for a reading less an offset
 pub sub-number : (x o : Float) → T (finite x) → T (finite o) → Number (Ieee.sub binary32 x o)
 unfolding Ieee.sub Ieee.add Ieee.neg
 sub-number nan o hx ho = absurd hx
@@ -64,6 +69,7 @@ unfolding Ieee.lt Ieee.ofBits
 zero-not-good false e h = omega (arith, ltb→lt (0 * up (pos 0) * down e) (0 * up e * down (pos 0)) h)
 zero-not-good true e h = h
 
+-- for the product
 pub mul-number : (x g : Float) → Number x → T (goodGain g) → Number (Ieee.mul binary32 x g)
 unfolding Ieee.mul isNan
 mul-number nan g hx hg = absurd hx

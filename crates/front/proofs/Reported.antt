@@ -1,7 +1,7 @@
 -- Whatever comes in, the two floats that are handed back are finite: on a refusal they are +0.0, and a report is made only of a block
 -- whose readings all are. So no NaN leaves `front`, and equal reports have equal bits. Assumes nothing.
-use mathlib.Core.Path.{_≡_, refl, sym, ap, _∙_}
-use mathlib.Core.Bool.{Bool, true, false, cond, not}
+use mathlib.Core.Path.{_≡_, sym, ap, _∙_}
+use mathlib.Core.Bool.{not}
 use mathlib.Core.List.{List, [], _∷_}
 use native.Mathlib.Nat.{le-antisymm}
 use borrow.Author.Tests.{ltb-false}
@@ -17,17 +17,14 @@ use Rattle.front.specs.Reports.{seen, seenAll, reportOf}
 use Rattle.front.specs.Fronting.{Fronting, sizesFit, finiteRun, fronting}
 use Rattle.front.specs.declared.FrontEnd.{FrontEnd}
 use Rattle.front.specs.declared.Report.{Report}
-use Rattle.front.proofs.Blocks.{long, run-le}
+use Rattle.front.proofs.Blocks.{run-le, whole-next}
+use Rattle.front.proofs.Choices.{cond-in}
 
+-- what is shown of the two floats of a report
 abbrev Finite : Float → Float → Type 0
 Finite lowest highest = T (finite lowest) × T (finite highest)
 
 -- ---- a report of finite readings
-
--- the reading that is seen, or what was there: finite either way
-one-of : (test : Bool) (x y : Float) → T (finite x) → T (finite y) → T (finite (cond test x y))
-one-of true x y p q = p
-one-of false x y p q = q
 
 -- for the step from a report to that of more readings
 seen-finite : (report : Report) (readings : List Float) → Finite (report .lowest) (report .highest) → finiteRun readings ≡ length readings
@@ -35,16 +32,17 @@ seen-finite : (report : Report) (readings : List Float) → Finite (report .lowe
 unfolding seenAll finiteRun
 seen-finite report [] h whole = h
 seen-finite report (x ∷ xs) h whole =
-    let more = long (finite x) (finiteRun xs) (length xs) whole in
-    seen-finite (seen report x) xs
-    (one-of (Ieee.lt x (report .lowest)) x (report .lowest) (more .0) (h .0), one-of (Ieee.lt (report .highest) x) x (report .highest) (more .0) (h .1))
-    (more .1)
+    let more = whole-next (finite x) (finiteRun xs) (length xs) whole in
+    let lowest = cond-in (λ (y : Float). T (finite y)) (Ieee.lt x (report .lowest)) x (report .lowest) (λ _. more .0) (λ _. h .0) in
+    let highest = cond-in (λ (y : Float). T (finite y)) (Ieee.lt (report .highest) x) x (report .highest) (λ _. more .0) (λ _. h .1) in
+    seen-finite (seen report x) xs (lowest, highest) (more .1)
 
+-- for a block that passed every test
 report-finite : (readings : List Float) → finiteRun readings ≡ length readings → Finite (reportOf readings .lowest) (reportOf readings .highest)
 unfolding reportOf finiteRun Ieee.ofBits
 report-finite [] whole = (tt, tt)
 report-finite (x ∷ xs) whole =
-    let more = long (finite x) (finiteRun xs) (length xs) whole in
+    let more = whole-next (finite x) (finiteRun xs) (length xs) whole in
     seen-finite (record { lowest = x; highest = x }) xs (more .0, more .0) (more .1)
 
 -- ---- what is handed back
@@ -52,17 +50,13 @@ report-finite (x ∷ xs) whole =
 abbrev FiniteReport : Fronting → Type 0
 FiniteReport f = Finite (f .lowest) (f .highest)
 
--- for a row of the definition: what is handed back there, and the rows below it once its test is passed
-row : (test : Bool) (given other : Fronting) → FiniteReport given → (test ≡ false → FiniteReport other) → FiniteReport (cond test given other)
-row true given other p q = p
-row false given other p q = q refl
-
+-- whatever comes in
 pub handed-back-finite : (frontEnd : FrontEnd) (readings : List Float) (symbols : List ℤ) → FiniteReport (fronting frontEnd readings symbols)
 unfolding fronting Ieee.ofBits
 handed-back-finite frontEnd readings symbols =
-    row (not (sizesFit (length readings) (length symbols))) _ _ (tt, tt)
-    (λ _. row (not (good frontEnd)) _ _ (tt, tt)
-    (λ _. row (ltb (finiteRun readings) (length readings)) _ _ (tt, tt)
+    cond-in FiniteReport (not (sizesFit (length readings) (length symbols))) _ _ (λ _. (tt, tt))
+    (λ _. cond-in FiniteReport (not (good frontEnd)) _ _ (λ _. (tt, tt))
+    (λ _. cond-in FiniteReport (ltb (finiteRun readings) (length readings)) _ _ (λ _. (tt, tt))
     (λ passed. report-finite readings (le-antisymm (run-le readings) (ltb-false (finiteRun readings) (length readings) passed)))))
 
 -- two single-precision floats with the same bits are the same value

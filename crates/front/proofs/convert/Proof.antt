@@ -1,21 +1,24 @@
--- `front::convert` meets its contract. The invariant speaks of what is left to do: the symbols written so far stand before the buffer's own, and the report, with
--- the readings that are left, comes to the report of the block. The measure is how many readings are left. Assumes nothing.
+-- `front::convert` meets its contract. The invariant speaks of what is left to do: the symbols written so far stand before the buffer's
+-- own, and the report, with the readings that are left, comes to the report of the block. The measure is how many readings are left.
+-- Assumes nothing.
 use mathlib.Core.Path.{_≡_, refl, sym, ap, _∙_}
-use mathlib.Core.List.{List, _++_, map}
+use mathlib.Core.List.{List, map}
 use Prim.Native.Nat.{ℕ, _-_, _<_, _≤_}
+use native.Mathlib.Nat.{zero-add}
+use native.Mathlib.Numerals.{add-one}
 use native.Mathlib.Omega.{arith}
 use borrow.Author.Needs.{needs}
-use lib.IntN.{ℤ, pos}
-use lib.Ieee.{Float}
-use lib.ListN.{length, getD, take, drop, length-map, length-append, length-drop}
-use lib.Seq.{length-take-le, take-all}
+use lib.IntN.{ℤ}
+use lib.Ieee.{Float, nan}
+use lib.ListN.{length, getD, drop, length-map, List·getD-map}
+use lib.Seq.{paste, paste-suc, length-paste, take-all}
 use mir.Syntax.{w8}
 use mir.ValLaws.{toZ-ofZ}
 use Rattle.front.specs.Symbols.{symbolOf}
 use Rattle.front.specs.Reports.{seenAll, reportOf}
 use Rattle.front.specs.declared.FrontEnd.{FrontEnd}
 use Rattle.front.specs.declared.Report.{Report}
-use Rattle.front.proofs.Blocks.{seen-first, seen-next, seen-done, finite-at, stored, made-at}
+use Rattle.front.proofs.Blocks.{seen-first, seen-next, seen-done, finite-at}
 use Rattle.front.proofs.convert.Statement.{statement}
 use Rattle.front.proofs.convert.Tie as tie
 
@@ -23,7 +26,7 @@ record Passed (frontEnd : FrontEnd) (readings : List Float) (symbols₀ symbols 
   -- no more readings are passed than there are
   within : i ≤ length readings
   -- their symbols stand before what the buffer held
-  written : symbols ≡ take i (map (symbolOf frontEnd) readings) ++ drop i symbols₀
+  written : symbols ≡ paste symbols₀ 0 (map (symbolOf frontEnd) readings) i
   -- the report, with the readings that are left, comes to the block's
   reported : seenAll report (drop i readings) ≡ reportOf readings
 
@@ -39,20 +42,17 @@ kept c =
     let start = c .before .before .before in
     let made = map (symbolOf (start .args .front-end)) (start .args .readings .now) in
     let many : length made ≡ length (start .args .readings .now) = length-map (start .args .readings .now) (symbolOf (start .args .front-end)) in
-    let room = start .pre .room in
-    omega (
-      arith,
-      ap length (c .loop .inv .written),
-      length-append (take (c .loop .i) made) (drop (c .loop .i) (start .args .symbols .now)),
-      length-take-le (c .loop .i) made (omega arith),
-      length-drop (c .loop .i) (start .args .symbols .now),
-    )
+    let within = c .loop .inv .within in
+    ap length (c .loop .inv .written)
+    ∙ length-paste (start .args .symbols .now) 0 made (c .loop .i) (omega (arith, start .pre .room)) (omega arith)
 
 shared-slice-read-first : tie.Need-shared-slice-read-first Inv-loop μ-loop
 shared-slice-read-first c = search needs
 
 loop-holds : tie.Need-loop-holds Inv-loop μ-loop
-loop-holds c = record { within = search needs; written = refl; reported = seen-first (c .before .before .args .readings .now) (c .before .before .pre .some) }
+loop-holds c =
+    let start = c .before .before in
+    record { within = search needs; written = refl; reported = seen-first (start .args .readings .now) (start .pre .some) }
 
 mul-reading : tie.Need-mul-reading Inv-loop μ-loop
 mul-reading c = search needs
@@ -65,8 +65,9 @@ seen-requires c κs = tt
 
 symbol-requires : tie.Need-symbol-requires Inv-loop μ-loop
 symbol-requires c κs =
-    let start = c .before .before .before .before .before .before in
-    (start .pre .front-good, finite-at (start .args .readings .now) (c .before .before .before .loop .i) (start .pre .all-finite) (c .before .before .loop-test .taken))
+    let l = c .before .before .before in
+    let start = l .before .before .before in
+    (start .pre .front-good, finite-at (start .args .readings .now) (l .loop .i) (start .pre .all-finite) (c .before .before .loop-test .taken))
 
 slice-set-from-symbols : tie.Need-slice-set-from-symbols Inv-loop μ-loop
 slice-set-from-symbols c =
@@ -87,12 +88,14 @@ loop-again c =
     let readings = start .args .readings .now in
     let f = symbolOf (start .args .front-end) in
     let h : i < length readings = c .before .before .before .loop-test .taken in
-    let symbol : getD (map f readings) i (pos 0) ≡ c .symbol .result = made-at f readings i h ∙ sym (c .symbol .ensures) in
+    let symbol : getD (map f readings) i (f nan) ≡ c .symbol .result = List·getD-map f readings i nan ∙ sym (c .symbol .ensures) in
+    let many = length-map readings f in
+    let turn = paste-suc (start .args .symbols .now) 0 (map f readings) i (f nan) (omega (arith, h, start .pre .room)) (omega (arith, h)) in
     record {
       within = omega (arith, h);
       written =
-          rw (toZ-ofZ w8 (c .symbol .result) (record { sfits = c .symbol .ok }), ← symbol, l .loop .inv .written)
-          (stored (map f readings) (start .args .symbols .now) i (omega (arith, h, length-map readings f)) (omega (arith, h, start .pre .room)));
+          rw (toZ-ofZ w8 (c .symbol .result) (record { sfits = c .symbol .ok }), ← symbol, l .loop .inv .written, add-one, zero-add i)
+          (rw (zero-add i) at turn);
       reported = rw (c .before .seen .ensures) (sym (seen-next (l .loop .report) readings i h)) ∙ l .loop .inv .reported;
     }
 
@@ -108,7 +111,7 @@ returns c =
     let e : l .loop .i ≡ length readings = omega (arith, l .loop .inv .within, c .loop-test .left) in
     let many = length-map readings f in (
       sym (seen-done (l .loop .report) readings (l .loop .i) (c .loop-test .left)) ∙ l .loop .inv .reported,
-      l .loop .inv .written ∙ rw (e, take-all (length readings) (map f readings) (omega arith)),
+      l .loop .inv .written ∙ rw (e, take-all (length readings) (map f readings) (omega arith), zero-add (length readings)),
     )
 
 pub convert-spec : {M : Type 1} → statement M

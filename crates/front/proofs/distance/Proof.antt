@@ -1,5 +1,5 @@
--- `front::distance` meets its contract, by the three ranges of the exponent (proofs/Rounding.antt). In the middle one the shift drops nothing, so that `one` is
--- the number of parts that make 1. Assumes nothing.
+-- `front::distance` meets its contract, by the three ranges of the exponent's field (proofs/Rounding.antt). In the middle one the shift
+-- drops nothing, so that `one` is the number of parts that make 1. Assumes nothing.
 use mathlib.Core.Path.{_≡_, sym, _∙_}
 use mathlib.Core.Logic.{⊎-elim}
 use Prim.Native.Nat.{ℕ, _-_, _*_, _%_, _^_, _≤_, _<_}
@@ -16,12 +16,14 @@ use Rattle.front.proofs.distance.Tie as tie
 abbrev shifted : ℕ → ℕ
 shifted bits = 1 * 2 ^ (150 - field bits) % 2 ^ 32
 
+-- for the middle range: at most 24 places, so it drops nothing
 exact : (bits : ℕ) → 126 ≤ field bits → shifted bits ≡ one bits
 exact bits h =
     let few : 150 - field bits ≤ 24 = omega arith in
     let most : one bits ≤ 2 ^ 24 = pow-mono few in
     omega arith
 
+-- for the division
 positive : (bits : ℕ) → 126 ≤ field bits → 0 < shifted bits
 positive bits h = rw (exact bits h) (pow-pos (150 - field bits))
 

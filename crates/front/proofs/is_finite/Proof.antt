@@ -15,6 +15,7 @@ below (inf true) h = refl
 below (inf false) h = absurd (false≢true h)
 below (fin s m e) h = refl
 
+-- and not below it, the answer is no
 not-below : (x : Float) → Ieee.lt x (inf false) ≡ false → Ieee.lt x (inf false) ≡ finite x
 unfolding Ieee.lt
 not-below nan h = refl

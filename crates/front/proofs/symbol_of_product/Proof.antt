@@ -1,4 +1,5 @@
--- `front::symbol_of_product` meets its contract: what `distance` hands back is at most 127, so that the byte and its negative hold it. Assumes nothing.
+-- `front::symbol_of_product` meets its contract: what `distance` hands back is at most 127, so that the byte and its negative hold it.
+-- Assumes nothing.
 use mathlib.Core.Path.{_≡_}
 use Prim.Native.Nat.{ℕ, zero, suc, _≤_}
 use native.Mathlib.Nat.{min-le-left}

@@ -34,7 +34,8 @@ returns c = rw (c .before .before .self .given .1) (c .is-good-gain .ensures)
 returns-2 : tie.Need-returns-2
 unfolding good
 returns-2 c =
-    rw (c .before .before .before .before .self2 .given .1, sym (c .before .before .is-finite .ensures) ∙ c .before .if1 .taken) (c .is-good-gain2 .ensures)
+    let finite-offset = sym (c .before .before .is-finite .ensures) ∙ c .before .if1 .taken in
+    rw (c .before .before .before .before .self2 .given .1, finite-offset) (c .is-good-gain2 .ensures)
 
 returns-3 : tie.Need-returns-3
 unfolding good

@@ -1,4 +1,5 @@
--- `front::FrontEnd::symbol` meets its contract, case by case: no product is a NaN (proofs/Numbers.antt), so its bits are there to be rounded. Assumes nothing.
+-- `front::FrontEnd::symbol` meets its contract, case by case: no product is a NaN (proofs/Numbers.antt), so its bits are there to be
+-- rounded. Assumes nothing.
 use borrow.Author.Needs.{needs}
 use lib.Dec.{T}
 use lib.Ieee as Ieee
