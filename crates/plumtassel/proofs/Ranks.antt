@@ -20,7 +20,7 @@ use Rattle.trellis.proofs.Order.{before-order, entry-path, onto-later}
 use Rattle.trellis.proofs.Ranked.{Priced, ranked-in, ranked-out, ranked-sorted}
 use Rattle.trellis.proofs.MetNodes.{metNodes, met-in, length-some-met}
 
--- what stands before one of the first j + 1 is one of the first j
+-- for a node's predecessor: what stands before one of the first j + 1 is one of the first j
 module _ {A : Type 0} (less : A → A → Bool) (order : Order less) where
   earlier-in : (j : ℕ) (l : List A) → Sorted less l → {e f : A} → e ∈ take (suc j) l → f ∈ l → T (less f e) → f ∈ take j l
   earlier-in j [] s m k h = absurd (nil-out k)
@@ -31,21 +31,23 @@ module _ {A : Type 0} (less : A → A → Bool) (order : Order less) where
   earlier-in (suc j) (x ∷ l) s (further m) (further k) h = further (earlier-in j l (s .1) m k h)
 
 module _ (t : Trellis) (j : ℕ) where
-  abbrev front : List Entry
-  front = take (suc j) (ranked t)
+  -- the first j + 1
+  abbrev leading : List Entry
+  leading = take (suc j) (ranked t)
 
-  priced : (e : Entry) → e ∈ front → Priced t e
+  -- each has its cost
+  priced : (e : Entry) → e ∈ leading → Priced t e
   priced e m = ranked-out t (take-out (suc j) (ranked t) e m)
 
   -- no node twice, as its cost is one
-  nodes-unique : Unique (map (λ e. e .node) front)
+  nodes-unique : Unique (map (λ e. e .node) leading)
   nodes-unique =
-      map-unique (λ e. e .node) front
+      map-unique (λ e. e .node) leading
       (λ a b m k same. entry-path (cost-unique (priced a m) (subst (λ (x : Node). Cost t x (b .cost)) (sym same) (priced b k))) same)
-      (sorted-unique before before-order front (take-sorted before (suc j) (ranked t) (ranked-sorted t)))
+      (sorted-unique before before-order leading (take-sorted before (suc j) (ranked t) (ranked-sorted t)))
 
   -- each is the origin or entered from one of the first j
-  node-met : (e : Entry) → e ∈ front → e .node ∈ metNodes t j
+  node-met : (e : Entry) → e ∈ leading → e .node ∈ metNodes t j
   node-met e m = go (e .node .level) refl
     where
       go : (n : ℕ) → e .node .level ≡ n → e .node ∈ metNodes t j
@@ -67,8 +69,8 @@ module _ (t : Trellis) (j : ℕ) where
   -- D(j) is at least j + 1
   pub ranked-met : j < length (ranked t) → suc j ≤ met t j
   ranked-met h =
-      let n = length-some-met t j (map (λ e. e .node) front) nodes-unique (λ x w. go x (map-out (λ e. e .node) front w)) in
-      omega (arith, length-map front (λ (e : Entry). e .node), length-take (suc j) (ranked t))
+      let n = length-some-met t j (map (λ e. e .node) leading) nodes-unique (λ x w. go x (map-out (λ e. e .node) leading w)) in
+      omega (arith, length-map leading (λ (e : Entry). e .node), length-take (suc j) (ranked t))
     where
-      go : (x : Node) → Mapped (λ (e : Entry). e .node) front x → x ∈ metNodes t j
+      go : (x : Node) → Mapped (λ (e : Entry). e .node) leading x → x ∈ metNodes t j
       go x f = member-cast (f .equal) (node-met (f .source) (f .member))

@@ -25,7 +25,7 @@ use Rattle.search.specs.Decoding.{Decoding, decoding}
 use Rattle.search.proofs.Answers.{answers-out}
 use Rattle.sheets.specs.Checking.{honestSheet}
 use Rattle.sheets.proofs.Written.{length-sheetBytes}
-use Rattle.writer.specs.Sheeting.{handed, told, honestBytes, written, sheeting}
+use Rattle.writer.specs.Sheeting.{Sheeting, handed, told, honestBytes, written, sheeting}
 use Rattle.writer.specs.declared.writer.DecodedSheet.{DecodedSheet}
 use Rattle.writer.specs.declared.writer.DecodedSheet.the-variants.{Done, BadCode, BadSize, NoRoom, NoAllowance, Tied, NoSheetRoom}
 use Rattle.plumtassel.specs.Face.{sheeted}
@@ -48,7 +48,10 @@ written-size : (bytes message sheet : List ℕ) (d : Decoding) → written bytes
 unfolding written
 written-size bytes message sheet d = go (ltb (length sheet) (length bytes))
   where
-    go : (short : Bool) → cond short (handed 9 0 0 (length bytes) message sheet) (handed 0 (d .metric) (d .steps) (length bytes) (d .message) (bytes ++ drop (length bytes) sheet)) .size ≡ length bytes
+    whole : Sheeting
+    whole = handed 0 (d .metric) (d .steps) (length bytes) (d .message) (bytes ++ drop (length bytes) sheet)
+
+    go : (short : Bool) → cond short (handed 9 0 0 (length bytes) message sheet) whole .size ≡ length bytes
     go true = refl
     go false = refl
 

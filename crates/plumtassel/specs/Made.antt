@@ -21,13 +21,11 @@ use Rattle.plumtassel.specs.declared.FrontEnd.{FrontEnd}
 use Rattle.plumtassel.specs.declared.Report.{Report}
 use Rattle.plumtassel.specs.Face.{refusal}
 
--- 'A block has N = n(L+m) symbols, at most 864.'
-abbrev pub longestBlock : ℕ
-longestBlock = 864
-
--- a sheet's head, the bits of 200 in 25 bytes, and 4,096 entries of 8 bytes
+-- a sheet's head, 14 bytes; the bits of 200 in 25 bytes; and 4,096 entries of 8 bytes
 abbrev pub longestSheet : ℕ
 longestSheet = 32807
+
+-- ---- answers
 
 abbrev pub encoderAnswer : Encoded → Answer
 encoderAnswer (encoded.Done n) = record { number = 0; metric = 0; steps = 0; length = n }
@@ -35,6 +33,7 @@ encoderAnswer encoded.BadCode = refusal 1
 encoderAnswer encoded.BadSize = refusal 2
 encoderAnswer encoded.Malformed = refusal 6
 
+-- with a metric and steps
 abbrev pub searchAnswer : ℕ → ℕ → ℕ → Answer
 searchAnswer number metric steps = record { number = number; metric = metric; steps = steps; length = 0 }
 
@@ -62,6 +61,8 @@ checkAnswer checked.BadSize = refusal 2
 checkAnswer checked.Malformed = refusal 6
 checkAnswer checked.NotCarried = refusal 7
 
+-- ---- the front end
+
 -- the front end of a form; a gain of zero stands for a form that there is none of
 unfoldable pub choice : FrontEnd → front.FrontEnd
 choice f =
@@ -70,6 +71,7 @@ choice f =
     (cond (eqb (f .form) 2) (Threshold (f .threshold))
     (Gain plusZero)))
 
+-- a refusal with its number and an index
 abbrev pub refusedReading : ℕ → ℕ → Report
 refusedReading number index = record { number = number; count = 0; index = index; lowest = plusZero; highest = plusZero }
 

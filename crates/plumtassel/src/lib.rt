@@ -13,6 +13,7 @@ use writer::writer::DecodedSheet;
 use writer::writer::decode_sheet;
 ghost use mathlib.Core.Path.{_≡_};
 ghost use Prim.Native.Nat.{_≤_};
+ghost use Rattle.blocks.specs.Blocks.{longestBlock};
 ghost use Rattle.codes.specs.Codes.{houseCode};
 ghost use Rattle.codes.specs.Encoding.{encoding};
 ghost use Rattle.front.specs.Limits.{mostReadings};
@@ -21,8 +22,8 @@ ghost use Rattle.sheets.specs.Checking.{checking};
 ghost use Rattle.writer.specs.Sheeting.{sheeting};
 ghost use Rattle.plumtassel.specs.Face.{faceCode, codeOf, refusal, encoded, decoded, sheeted, checked};
 ghost use Rattle.plumtassel.specs.Fronts.{structFronting, reported};
-ghost use Rattle.plumtassel.specs.Made.{longestBlock, longestSheet, encoderAnswer, searchAnswer, decoderAnswer};
-ghost use Rattle.plumtassel.specs.Made.{sheetAnswer, checkAnswer, choice, refusedReading, frontReport};
+ghost use Rattle.plumtassel.specs.Made.{longestSheet, encoderAnswer, searchAnswer, decoderAnswer, sheetAnswer, checkAnswer};
+ghost use Rattle.plumtassel.specs.Made.{choice, refusedReading, frontReport};
 
 // n outputs, memory m, and room for four generators, of which the first n count.
 #[repr(C)]

@@ -30,7 +30,8 @@ returns c =
     ∙ sym (check-told (k .check .result) message)
     ∙ ap checked
     (k .check .ensures
-    ∙ ap (λ (code : codes.Code). checking code (s .args .length) (s .args .symbols .now) (s .args .sheet .now) (s .args .message .now)) (k .before .before .opened .ensures))
+    ∙ ap (λ (code : codes.Code). checking code (s .args .length) (s .args .symbols .now) (s .args .sheet .now) (s .args .message .now))
+    (k .before .before .opened .ensures))
 
 pub plumtassel-check-spec : {M : Type 1} → statement M
 plumtassel-check-spec =

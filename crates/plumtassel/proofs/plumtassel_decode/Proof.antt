@@ -30,11 +30,14 @@ returns c =
     let k = c .before .before .before .before .before in
     let s = k .before .before .before .before .before .before in
     let message = k .decode .last .1 .1 .1 .1 .1 .1 .0 in
-    ap (λ (a : Answer). (a, message)) (c .decoder-answer .ensures)
+    let a = s .args in
+    let words = length (a .work .now) in
+    ap (λ (answer : Answer). (answer, message)) (c .decoder-answer .ensures)
     ∙ sym (decoder-told (k .decode .result) message)
     ∙ ap decoded
     (k .decode .ensures
-    ∙ ap (λ (code : codes.Code). decoding code (s .args .length) (s .args .symbols .now) (s .args .room) (s .args .allowance) (length (s .args .work .now)) (s .args .message .now)) (k .before .before .before .opened .ensures))
+    ∙ ap (λ (code : codes.Code). decoding code (a .length) (a .symbols .now) (a .room) (a .allowance) words (a .message .now))
+    (k .before .before .before .opened .ensures))
 
 pub plumtassel-decode-spec : {M : Type 1} → statement M
 plumtassel-decode-spec =

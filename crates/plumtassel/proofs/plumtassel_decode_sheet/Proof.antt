@@ -5,7 +5,7 @@ use Prim.Native.Nat.{ℕ}
 use borrow.Author.Needs.{needs}
 use lib.ListN.{length}
 use Rattle.codes.specs.declared.table.Code as codes
-use Rattle.writer.specs.Sheeting.{sheeting}
+use Rattle.writer.specs.Sheeting.{Sheeting, sheeting}
 use Rattle.plumtassel.specs.declared.Answer.{Answer}
 use Rattle.plumtassel.specs.Face.{codeOf, sheeted}
 use Rattle.plumtassel.specs.Made.{sheetAnswer}
@@ -24,13 +24,16 @@ module _ (k : tie.After-decode-sheet) where
   abbrev sheet : List ℕ
   sheet = k .decode-sheet .last .1 .1 .1 .1 .1 .1 .1 .0
 
-  said : (sheetAnswer (k .decode-sheet .result), message, sheet) ≡ sheeted (sheeting (codeOf (s .args .code)) (s .args .length) (s .args .symbols .now) (s .args .room) (s .args .allowance) (length (s .args .work .now)) (s .args .message .now) (s .args .sheet .now))
+  -- what the definition says, by the code
+  abbrev given : codes.Code → Sheeting
+  given code =
+      let a = s .args in
+      sheeting code (a .length) (a .symbols .now) (a .room) (a .allowance) (length (a .work .now)) (a .message .now) (a .sheet .now)
+
+  said : (sheetAnswer (k .decode-sheet .result), message, sheet) ≡ sheeted (given (codeOf (s .args .code)))
   said =
       sym (sheet-told (k .decode-sheet .result) message sheet)
-      ∙ ap sheeted
-      (k .decode-sheet .ensures
-      ∙ ap (λ (code : codes.Code). sheeting code (s .args .length) (s .args .symbols .now) (s .args .room) (s .args .allowance) (length (s .args .work .now)) (s .args .message .now) (s .args .sheet .now))
-      (k .before .before .before .before .opened .ensures))
+      ∙ ap sheeted (k .decode-sheet .ensures ∙ ap given (k .before .before .before .before .opened .ensures))
 
 opened-requires : tie.Need-opened-requires
 opened-requires c κs = search needs

@@ -16,11 +16,14 @@ abbrev entry : tie.After-encode → tie.Start
 entry c = c .before .before .before .before .before
 
 -- what `encode` said, in the struct
-said : (c : tie.After-encode) → let s = entry c in (encoderAnswer (c .encode .result), c .encode .last .1 .1 .0) ≡ encoded (encoding (codeOf (s .args .code)) (s .args .message .now) (s .args .out .now))
+said : (c : tie.After-encode)
+    → let a = entry c .args in
+    (encoderAnswer (c .encode .result), c .encode .last .1 .1 .0) ≡ encoded (encoding (codeOf (a .code)) (a .message .now) (a .out .now))
 said c =
-    let s = entry c in
+    let a = entry c .args in
     sym (encoder-told (c .encode .result) (c .encode .last .1 .1 .0))
-    ∙ ap encoded (c .encode .ensures ∙ ap (λ (k : codes.Code). encoding k (s .args .message .now) (s .args .out .now)) (c .before .before .opened .ensures))
+    ∙ ap encoded
+    (c .encode .ensures ∙ ap (λ (code : codes.Code). encoding code (a .message .now) (a .out .now)) (c .before .before .opened .ensures))
 
 opened-requires : tie.Need-opened-requires
 opened-requires c κs = search needs
@@ -31,14 +34,16 @@ encode-requires c κs = search needs
 encoder-answer-requires : tie.Need-encoder-answer-requires
 encoder-answer-requires c κs =
     let k = c .before .before in
-    let s = entry k in
-    rw (ap (λ (p : Answer × List ℕ). p .0 .length) (said k)) (symbols-most (codeOf (s .args .code)) (s .args .message .now) (s .args .out .now))
+    let a = entry k .args in
+    rw (ap (λ (p : Answer × List ℕ). p .0 .length) (said k)) (symbols-most (codeOf (a .code)) (a .message .now) (a .out .now))
 
 same-length : tie.Need-same-length
 same-length c = search needs
 
 returns : tie.Need-returns
-returns c = let k = c .before .before .before in ap (λ (a : Answer). (a, k .encode .last .1 .1 .0)) (c .encoder-answer .ensures) ∙ said k
+returns c =
+    let k = c .before .before .before in
+    ap (λ (answer : Answer). (answer, k .encode .last .1 .1 .0)) (c .encoder-answer .ensures) ∙ said k
 
 pub plumtassel-encode-spec : {M : Type 1} → statement M
 plumtassel-encode-spec =

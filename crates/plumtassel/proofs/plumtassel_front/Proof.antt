@@ -17,15 +17,13 @@ entry c = c .before .before .before .before
 
 -- what `front` said, in the struct
 said : (c : tie.After-front)
-    → let s = entry c in
-    (frontReport (c .front .result), c .front .last .1 .1 .0)
-    ≡ reported (fronting (choice (s .args .front-end)) (s .args .readings .now) (s .args .symbols .now))
+    → let a = entry c .args in
+    (frontReport (c .front .result), c .front .last .1 .1 .0) ≡ reported (fronting (choice (a .front-end)) (a .readings .now) (a .symbols .now))
 said c =
-    let s = entry c in
+    let a = entry c .args in
     sym (front-told (c .front .result) (c .front .last .1 .1 .0))
     ∙ ap reported
-    (c .front .ensures
-    ∙ ap (λ (f : front.FrontEnd). fronting f (s .args .readings .now) (s .args .symbols .now)) (c .before .before .chosen .ensures))
+    (c .front .ensures ∙ ap (λ (f : front.FrontEnd). fronting f (a .readings .now) (a .symbols .now)) (c .before .before .chosen .ensures))
 
 chosen-requires : tie.Need-chosen-requires
 chosen-requires c κs = search needs
@@ -36,8 +34,8 @@ front-requires c κs = search needs
 front-report-requires : tie.Need-front-report-requires
 front-report-requires c κs =
     let k = c .before in
-    let s = entry k in
-    let small = fronting-small (choice (s .args .front-end)) (s .args .readings .now) (s .args .symbols .now) in
+    let a = entry k .args in
+    let small = fronting-small (choice (a .front-end)) (a .readings .now) (a .symbols .now) in
     let e = said k in
     (rw (ap (λ (p : Report × List ℤ). p .0 .count) e) (small .count), rw (ap (λ (p : Report × List ℤ). p .0 .index) e) (small .index))
 
@@ -47,10 +45,10 @@ same-length c = search needs
 returns : tie.Need-returns
 returns c =
     let k = c .before .before in
-    let s = entry k in
+    let a = entry k .args in
     ap (λ (r : Report). (r, k .front .last .1 .1 .0)) (c .front-report .ensures)
     ∙ said k
-    ∙ ap reported (choice-fronting (s .args .readings .now) (s .args .symbols .now) (s .args .front-end))
+    ∙ ap reported (choice-fronting (a .readings .now) (a .symbols .now) (a .front-end))
 
 pub plumtassel-front-spec : {M : Type 1} → statement M
 plumtassel-front-spec =
