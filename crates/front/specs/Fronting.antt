@@ -47,8 +47,8 @@ unfoldable pub finiteRun : List Float → ℕ
 finiteRun [] = 0
 finiteRun (reading ∷ readings) = cond (finite reading) (suc (finiteRun readings)) 0
 
--- The refusals 2, 6, 8 in their order, 'every output buffer untouched'; then 'one symbol for each reading', 'their number with its
--- report', the excess untouched.
+-- The refusals 2, 6, 8 in their order, where 'every output buffer is untouched'; then 'one symbol for each reading' and 'their number
+-- with its report', the buffer's excess untouched.
 unfoldable pub fronting : FrontEnd → List Float → List ℤ → Fronting
 fronting frontEnd readings symbols =
     cond (not (sizesFit (length readings) (length symbols))) (handed 2 0 0 noReport symbols)

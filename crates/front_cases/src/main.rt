@@ -28,6 +28,7 @@ fn told(number: usize, count: usize, index: usize, lowest: f32, highest: f32) {
     show::float(highest);
 }
 
+// An answer, by its number.
 fn answered(answer: Fronted) {
     match answer {
         Fronted::Done { count, report } => told(0, count, 0, report.lowest, report.highest),
@@ -37,6 +38,7 @@ fn answered(answer: Fronted) {
     }
 }
 
+// A front end, by its form.
 fn asked(front_end: FrontEnd) {
     match front_end {
         FrontEnd::Gain(gain) => {
@@ -140,6 +142,7 @@ fn extremes() {
     );
 }
 
+// An offset is taken off before the gain; a threshold gives 1 at itself and above.
 fn offset_and_threshold() {
     let around_ten = [10.0f32, 10.25, 9.75, 73.5, -53.5];
     let ten = FrontEnd::Offset {

@@ -4,14 +4,11 @@ use mathlib.Core.Bool.{Bool, true, false, cond}
 use mathlib.Core.List.{List, _++_}
 use Prim.Native.Nat.{ℕ, _≤_}
 use native.Mathlib.Omega.{arith}
-use borrow.Author.Tests.{leb-true, eqb-true}
-use lib.Dec.{leb, eqb, ltb}
+use borrow.Author.Tests.{eqb-true}
+use lib.Dec.{eqb, ltb}
 use lib.IntN.{ℤ}
 use lib.ListN.{length, take, drop}
-use Rattle.codes.specs.Limits.{shortestMessage, longestMessage}
-use Rattle.codes.specs.Codes.{from}
 use Rattle.codes.specs.declared.table.Code.{Code}
-use Rattle.codes.proofs.Rules.{both, from-out}
 use Rattle.trellis.specs.Trellis.{Trellis}
 use Rattle.trellis.specs.Verdict.{steps}
 use Rattle.trellis.proofs.Messages.{terminal-reached}
@@ -20,9 +17,9 @@ use Rattle.trellis.proofs.HonestRanked.{length-honest}
 use Rattle.blocks.specs.Symbols.{view}
 use Rattle.blocks.specs.Blocks.{trellisOf}
 use Rattle.blocks.proofs.Closing.{trellis-lawful}
-use Rattle.search.specs.Limits.{largestRoom}
 use Rattle.search.specs.Decoding.{Decoding, decoding}
 use Rattle.search.proofs.Answers.{answers-out}
+use Rattle.search.proofs.Sizes.{sizesFit-out}
 use Rattle.sheets.specs.Checking.{honestSheet}
 use Rattle.sheets.proofs.Written.{length-sheetBytes}
 use Rattle.writer.specs.Sheeting.{Sheeting, handed, told, honestBytes, written, sheeting}
@@ -56,6 +53,7 @@ written-size bytes message sheet d = go (ltb (length sheet) (length bytes))
     go false = refl
 
 module _ (c : Code) (l : ℕ) (symbols : List ℤ) (room allowance words : ℕ) (message sheet : List ℕ) where
+  -- what the decoder says, and the block's trellis
   abbrev d : Decoding
   d = decoding c l symbols room allowance words message
 
@@ -68,16 +66,15 @@ module _ (c : Code) (l : ℕ) (symbols : List ℤ) (room allowance words : ℕ) 
   honest-size z =
       let a = answers-out c l symbols room allowance words message z .answers in
       let law = trellis-lawful c l (view symbols) in
-      let s = both (from shortestMessage longestMessage l) _ (a .sizes) in
-      let r = both (leb room largestRoom) _ (s .1) in
+      let sizes = sizesFit-out c l (length symbols) room words (length message) (a .sizes) in
       omega (
         arith,
         length-sheetBytes l (honestSheet t (take l (d .message))),
         length-honest law,
         ranked-met t (steps t) (steps-few t (terminal-reached law)),
         a .answerable .roomy,
-        from-out shortestMessage longestMessage l (s .0) .1,
-        leb-true room largestRoom (r .0),
+        sizes .long,
+        sizes .small,
       )
 
   -- for the cast: what the definition gives as a size fits

@@ -21,6 +21,6 @@ structFronting f readings symbols =
     (cond (not (sizesFit (length readings) (length symbols))) (handed 2 0 0 noReport symbols)
     (handed 6 0 0 noReport symbols))))
 
--- what the front end hands back, and the symbol buffer
+-- what the front end hands back, and the symbol buffer: it 'writes one symbol for each reading and gives their number with its report'
 abbrev pub reported : Fronting → Report × List ℤ
 reported f = (record { number = f .number; count = f .count; index = f .index; lowest = f .lowest; highest = f .highest }, f .symbols)

@@ -5,6 +5,7 @@ use Prim.Native.Nat.{ℕ}
 use lib.Dec.{eqb}
 use Rattle.codes.specs.declared.encoder.Encoded.{Encoded}
 use Rattle.codes.specs.declared.encoder.Encoded.the-variants as encoded
+use Rattle.codes.specs.Limits.{longestMessage}
 use Rattle.front.specs.Symbols.{plusZero}
 use Rattle.front.specs.declared.FrontEnd as front
 use Rattle.front.specs.declared.FrontEnd.the-variants.{Gain, Offset, Threshold}
@@ -12,6 +13,8 @@ use Rattle.front.specs.declared.Fronted.{Fronted}
 use Rattle.front.specs.declared.Fronted.the-variants as fronted
 use Rattle.search.specs.declared.decoder.Decoded.{Decoded}
 use Rattle.search.specs.declared.decoder.Decoded.the-variants as decoded
+use Rattle.sheets.specs.Checking.{mostEntries}
+use Rattle.sheets.specs.Steps.{sheetSize}
 use Rattle.sheets.specs.declared.check.Checked.{Checked}
 use Rattle.sheets.specs.declared.check.Checked.the-variants as checked
 use Rattle.writer.specs.declared.writer.DecodedSheet.{DecodedSheet}
@@ -19,13 +22,16 @@ use Rattle.writer.specs.declared.writer.DecodedSheet.the-variants as sheeted
 use Rattle.plumtassel.specs.declared.Answer.{Answer}
 use Rattle.plumtassel.specs.declared.FrontEnd.{FrontEnd}
 use Rattle.plumtassel.specs.declared.Report.{Report}
-use Rattle.plumtassel.specs.Face.{refusal}
 
--- a sheet's head, 14 bytes; the bits of 200 in 25 bytes; and 4,096 entries of 8 bytes
+-- the size of a sheet of 200 bits and 4,096 entries
 abbrev pub longestSheet : ℕ
-longestSheet = 32807
+longestSheet = sheetSize longestMessage mostEntries
 
 -- ---- answers
+
+-- a refusal with nothing but its number
+abbrev pub refusal : ℕ → Answer
+refusal number = record { number = number; metric = 0; steps = 0; length = 0 }
 
 abbrev pub encoderAnswer : Encoded → Answer
 encoderAnswer (encoded.Done n) = record { number = 0; metric = 0; steps = 0; length = n }

@@ -20,10 +20,10 @@ ghost use Rattle.front.specs.Limits.{mostReadings};
 ghost use Rattle.search.specs.Decoding.{decoding};
 ghost use Rattle.sheets.specs.Checking.{checking};
 ghost use Rattle.writer.specs.Sheeting.{sheeting};
-ghost use Rattle.plumtassel.specs.Face.{faceCode, codeOf, refusal, encoded, decoded, sheeted, checked};
+ghost use Rattle.plumtassel.specs.Face.{faceCode, codeOf, encoded, decoded, sheeted, checked};
 ghost use Rattle.plumtassel.specs.Fronts.{structFronting, reported};
-ghost use Rattle.plumtassel.specs.Made.{longestSheet, encoderAnswer, searchAnswer, decoderAnswer, sheetAnswer, checkAnswer};
-ghost use Rattle.plumtassel.specs.Made.{choice, refusedReading, frontReport};
+ghost use Rattle.plumtassel.specs.Made.{longestSheet, refusal, encoderAnswer, searchAnswer, decoderAnswer, sheetAnswer};
+ghost use Rattle.plumtassel.specs.Made.{checkAnswer, choice, refusedReading, frontReport};
 
 // n outputs, memory m, and room for four generators, of which the first n count.
 #[repr(C)]

@@ -15,9 +15,10 @@ use Rattle.plumtassel.proofs.plumtassel_decode_sheet.Tie as tie
 
 -- what `decode_sheet` said, in the struct
 module _ (k : tie.After-decode-sheet) where
-  abbrev s : tie.Start
-  s = k .before .before .before .before .before .before .before .before
+  abbrev entry : tie.Start
+  entry = k .before .before .before .before .before .before .before .before
 
+  -- the two buffers at the end
   abbrev message : List ℕ
   message = k .decode-sheet .last .1 .1 .1 .1 .1 .1 .0
 
@@ -27,10 +28,10 @@ module _ (k : tie.After-decode-sheet) where
   -- what the definition says, by the code
   abbrev given : codes.Code → Sheeting
   given code =
-      let a = s .args in
+      let a = entry .args in
       sheeting code (a .length) (a .symbols .now) (a .room) (a .allowance) (length (a .work .now)) (a .message .now) (a .sheet .now)
 
-  said : (sheetAnswer (k .decode-sheet .result), message, sheet) ≡ sheeted (given (codeOf (s .args .code)))
+  said : (sheetAnswer (k .decode-sheet .result), message, sheet) ≡ sheeted (given (codeOf (entry .args .code)))
   said =
       sym (sheet-told (k .decode-sheet .result) message sheet)
       ∙ ap sheeted (k .decode-sheet .ensures ∙ ap given (k .before .before .before .before .opened .ensures))
@@ -44,7 +45,7 @@ decode-sheet-requires c κs = search needs
 sheet-answer-requires : tie.Need-sheet-answer-requires
 sheet-answer-requires c κs =
     let k = c .before .before .before .before .before .before in
-    let a = s k .args in
+    let a = entry k .args in
     rw (ap (λ (p : Answer × List ℕ × List ℕ). p .0 .length) (said k))
     (sheeting-most (codeOf (a .code)) (a .length) (a .symbols .now) (a .room) (a .allowance) (length (a .work .now)) (a .message .now) (a .sheet .now))
 
