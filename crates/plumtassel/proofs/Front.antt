@@ -22,7 +22,7 @@ use Rattle.front.specs.declared.Fronted.the-variants.{Done, BadSize, Malformed,
 use Rattle.front.proofs.Frontings.{fronting-bad-size, fronting-malformed, fronting-not-finite, fronting-done}
 use Rattle.plumtassel.specs.declared.FrontEnd.{FrontEnd}
 use Rattle.plumtassel.specs.Fronts.{structFronting, reported}
-use Rattle.plumtassel.specs.Made.{choice, frontReport}
+use Rattle.plumtassel.specs.Made.{choice, frontReport, Small}
 
 -- for every return: the struct and the buffer say what `told` says
 pub front-told : (f : Fronted) (symbols : List ℤ) → reported (told f symbols) ≡ (frontReport f, symbols)
@@ -60,18 +60,14 @@ module _ (readings : List Float) (symbols : List ℤ) where
 
 -- ---- the casts
 
--- what is handed back as a count or an index fits
-pub record Small (f : Fronting) : Type 0 where
-  pub count : f .count ≤ mostReadings
-  pub index : f .index ≤ mostReadings
-
+-- what the definition gives as a count or an index fits
 module _ (f : front.FrontEnd) (readings : List Float) (symbols : List ℤ) where
   longest : sizesFit (length readings) (length symbols) ≡ true → length readings ≤ mostReadings
   longest h = leb-true (length readings) mostReadings (both (leb (length readings) mostReadings) _ (both (leb 1 (length readings)) _ h .1) .0)
 
   -- for each row of the definition
   row-small : (a b d : Bool) → sizesFit (length readings) (length symbols) ≡ a → good f ≡ b → ltb (finiteRun readings) (length readings) ≡ d
-      → Small (fronting f readings symbols)
+      → Small (reported (fronting f readings symbols) .0)
   row-small false b d p q r = rw (fronting-bad-size f readings symbols p) (record { count = omega arith; index = omega arith })
   row-small true false d p q r = rw (fronting-malformed f readings symbols p q) (record { count = omega arith; index = omega arith })
   row-small true true true p q r =
@@ -80,5 +76,5 @@ module _ (f : front.FrontEnd) (readings : List Float) (symbols : List ℤ) where
   row-small true true false p q r =
       rw (fronting-done f readings symbols p q (ltb-false (finiteRun readings) (length readings) r)) (record { count = longest p; index = omega arith })
 
-  pub fronting-small : Small (fronting f readings symbols)
+  pub fronting-small : Small (reported (fronting f readings symbols) .0)
   fronting-small = row-small (sizesFit (length readings) (length symbols)) (good f) (ltb (finiteRun readings) (length readings)) refl refl refl

@@ -1,11 +1,12 @@
 -- What the inner functions of the face make of each answer: the step between an operation's enum and the caller's struct. Not believed:
 -- no exported function's contract cites it. Assumes nothing.
 use mathlib.Core.Bool.{cond}
-use Prim.Native.Nat.{ℕ}
+use Prim.Native.Nat.{ℕ, _≤_}
 use lib.Dec.{eqb}
 use Rattle.codes.specs.declared.encoder.Encoded.{Encoded}
 use Rattle.codes.specs.declared.encoder.Encoded.the-variants as encoded
 use Rattle.codes.specs.Limits.{longestMessage}
+use Rattle.front.specs.Limits.{mostReadings}
 use Rattle.front.specs.Symbols.{plusZero}
 use Rattle.front.specs.declared.FrontEnd as front
 use Rattle.front.specs.declared.FrontEnd.the-variants.{Gain, Offset, Threshold}
@@ -87,3 +88,8 @@ frontReport (fronted.Done count report) =
 frontReport fronted.BadSize = refusedReading 2 0
 frontReport fronted.Malformed = refusedReading 6 0
 frontReport (fronted.NotFinite index) = refusedReading 8 index
+
+-- for the casts: a count and an index that are those of a block
+pub record Small (report : Report) : Type 0 where
+  pub count : report .count ≤ mostReadings
+  pub index : report .index ≤ mostReadings

@@ -16,14 +16,13 @@ ghost use Prim.Native.Nat.{_≤_};
 ghost use Rattle.blocks.specs.Blocks.{longestBlock};
 ghost use Rattle.codes.specs.Codes.{houseCode};
 ghost use Rattle.codes.specs.Encoding.{encoding};
-ghost use Rattle.front.specs.Limits.{mostReadings};
 ghost use Rattle.search.specs.Decoding.{decoding};
 ghost use Rattle.sheets.specs.Checking.{checking};
 ghost use Rattle.writer.specs.Sheeting.{sheeting};
 ghost use Rattle.plumtassel.specs.Face.{faceCode, codeOf, encoded, decoded, sheeted, checked};
 ghost use Rattle.plumtassel.specs.Fronts.{structFronting, reported};
 ghost use Rattle.plumtassel.specs.Made.{longestSheet, refusal, encoderAnswer, searchAnswer, decoderAnswer, sheetAnswer};
-ghost use Rattle.plumtassel.specs.Made.{checkAnswer, choice, refusedReading, frontReport};
+ghost use Rattle.plumtassel.specs.Made.{checkAnswer, choice, refusedReading, frontReport, Small};
 
 // n outputs, memory m, and room for four generators, of which the first n count.
 #[repr(C)]
@@ -302,7 +301,7 @@ fn chosen(front_end: FrontEnd) -> front::FrontEnd
 
 // The answer of `front` as the caller takes it.
 fn front_report(answer: Fronted) -> Report
-    requires { ⌜ (frontReport answer .count ≤ mostReadings) × (frontReport answer .index ≤ mostReadings) ⌝ }
+    requires { ⌜ Small (frontReport answer) ⌝ }
     ensures { λ r. ⌜ r ≡ frontReport answer ⌝ }
 {
     match answer {

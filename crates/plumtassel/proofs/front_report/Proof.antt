@@ -14,7 +14,7 @@ enum-known-answer c = search needs
 cast-t6 : tie.Need-cast-t6
 cast-t6 c =
     let e = c .before .answer .given .1 in
-    let most : c .before .answer .given .0 .0 ≤ mostReadings = rw e at (c .before .before .before .pre .0) in
+    let most : c .before .answer .given .0 .0 ≤ mostReadings = rw e at (c .before .before .before .pre .count) in
     record { fits = omega arith }
 
 enum-told : tie.Need-enum-told
@@ -35,7 +35,7 @@ enum-known-answer-2 c = search needs
 cast-refused-reading : tie.Need-cast-refused-reading
 cast-refused-reading c =
     let e = c .before .answer2 .given .1 in
-    let most : c .before .answer2 .given .0 .0 ≤ mostReadings = rw e at (c .before .before .before .pre .1) in
+    let most : c .before .answer2 .given .0 .0 ≤ mostReadings = rw e at (c .before .before .before .pre .index) in
     record { fits = omega arith }
 
 refused-reading-requires-3 : tie.Need-refused-reading-requires-3

@@ -35,9 +35,7 @@ front-report-requires : tie.Need-front-report-requires
 front-report-requires c κs =
     let k = c .before in
     let a = entry k .args in
-    let small = fronting-small (choice (a .front-end)) (a .readings .now) (a .symbols .now) in
-    let e = said k in
-    (rw (ap (λ (p : Report × List ℤ). p .0 .count) e) (small .count), rw (ap (λ (p : Report × List ℤ). p .0 .index) e) (small .index))
+    rw (ap (λ (p : Report × List ℤ). p .0) (said k)) (fronting-small (choice (a .front-end)) (a .readings .now) (a .symbols .now))
 
 same-length : tie.Need-same-length
 same-length c = search needs
