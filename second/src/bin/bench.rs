@@ -86,23 +86,21 @@ impl Memory {
     }
 }
 
-/// The least time of several rounds over all items: what else the machine does can only add to it.
+/// The least time of each item over several rounds, added up: what else the machine does can only add to it.
 fn timed<T, U>(memory: &mut Memory, items: &[T], mut run: impl FnMut(&mut Memory, &T) -> U) -> f64 {
-    let mut least = Duration::MAX;
+    let mut least = vec![Duration::MAX; items.len()];
     let begin = Instant::now();
     let mut rounds = 0;
-    while rounds < 3 || begin.elapsed() < Duration::from_millis(300) {
-        let mut sum = Duration::ZERO;
-        for item in items {
+    while rounds < 5 || begin.elapsed() < Duration::from_millis(500) {
+        for (item, least) in items.iter().zip(&mut least) {
             memory.clear();
             let start = Instant::now();
             black_box(run(memory, item));
-            sum += start.elapsed();
+            *least = start.elapsed().min(*least);
         }
-        least = least.min(sum);
         rounds += 1;
     }
-    least.as_secs_f64()
+    least.iter().sum::<Duration>().as_secs_f64()
 }
 
 /// Nothing is timed before all agree. Hands back the answers and, for the answered ones, their sheets.
