@@ -67,6 +67,7 @@ module _ {A : Type 0} {P : A → Type 0} {p : A → Bool} (d : (a : A) → Decid
 
 -- ---- the tests of numbers
 
+-- for =, < and ≤
 pub equal : (a b : ℕ) → Decides (eqb a b) (a ≡ b)
 equal a b = record { out = eqb→eq a b; into = (λ e. subst (λ (x : ℕ). T (eqb a x)) e (eqb-refl a)) }
 

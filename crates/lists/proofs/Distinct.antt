@@ -1,13 +1,12 @@
--- Each member once, by a test that is equality. Assumes nothing.
+-- Each member once, by a test that is equality: the same members, none twice. Assumes nothing.
 use mathlib.Core.Path.{_≡_}
 use mathlib.Core.List.{List, [], _∷_}
 use mathlib.Core.Bool.{Bool}
 use lib.Dec.{T}
-use lib.ListN.{length}
 use Rattle.lists.specs.Lists.{_∈_, any, distinct}
 use Rattle.lists.proofs.Tests.{test, true-out, false-out}
 use Rattle.lists.proofs.Membership.{here, further, member-cast, Within, any-in, any-out}
-use Rattle.lists.proofs.Unique.{Unique, same-length}
+use Rattle.lists.proofs.Unique.{Unique}
 
 module _ {A : Type 0} where
   -- a test that is equality
@@ -64,10 +63,3 @@ module _ {A : Type 0} where
         go : Dec (T (any (same x) (distinct same l))) → Unique (distinct same l) → Unique (distinct same (x ∷ l))
         go (yes h) ih = rw (distinct-again x l h) ih
         go (no h) ih = rw (distinct-new x l h) (λ m. h (listed-in m), ih)
-
-    -- to count the distinct members: the members alone decide
-    pub length-distinct : (s t : List A) → Within s t → Within t s → length (distinct same s) ≡ length (distinct same t)
-    length-distinct s t st ts =
-        same-length (distinct same s) (distinct same t) (distinct-unique s) (distinct-unique t)
-        (λ a m. distinct-in t a (st a (distinct-out s a m)))
-        (λ a m. distinct-in s a (ts a (distinct-out t a m)))

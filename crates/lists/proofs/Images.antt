@@ -25,6 +25,7 @@ module _ {A B : Type 0} (f : A → B) where
     abbrev pub byImage : A → A → Bool
     byImage a b = less (f a) (f b)
 
+    -- to insert before the images are made
     insert-map : (a : A) (l : List A) → insert less (f a) (map f l) ≡ map f (insert byImage a l)
     unfolding insert
     insert-map a [] = refl

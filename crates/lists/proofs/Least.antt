@@ -14,6 +14,7 @@ least-le (x ∷ []) (here e) = omega arith
 least-le (x ∷ y ∷ l) (here e) = omega arith
 least-le (x ∷ y ∷ l) {a} (further m) = let h : least (y ∷ l) ≤ a = least-le (y ∷ l) m in omega arith
 
+-- of a list that is not empty
 least-cons : (x : ℕ) (l : List ℕ) → least (x ∷ l) ∈ (x ∷ l)
 unfolding least
 least-cons x [] = here refl

@@ -20,6 +20,7 @@ compared a b = go (decLt a b) (decLt b a)
     go (no h) (no k) = inr (inl (omega arith))
 
 module _ {A : Type 0} (key : A → ℕ) (less : A → A → Bool) where
+  -- the order as a test
   abbrev pub lexicographic : A → A → Bool
   lexicographic x y = ltb (key x) (key y) || (eqb (key x) (key y) && less x y)
 
@@ -53,7 +54,8 @@ module _ {A : Type 0} (key : A → ℕ) (less : A → A → Bool) where
       never x (inl h) = omega arith
       never x (inr h) = irrefl x (h .1)
 
-      chain : (x y z : A) → (key x < key y) ⊎ ((key x ≡ key y) × T (less x y)) → (key y < key z) ⊎ ((key y ≡ key z) × T (less y z)) → T (lexicographic x z)
+      chain : (x y z : A) → (key x < key y) ⊎ ((key x ≡ key y) × T (less x y)) → (key y < key z) ⊎ ((key y ≡ key z) × T (less y z))
+          → T (lexicographic x z)
       chain x y z (inl h) (inl k) = lexicographic-lt x z (omega arith)
       chain x y z (inl h) (inr k) = lexicographic-lt x z (omega arith)
       chain x y z (inr h) (inl k) = lexicographic-lt x z (omega arith)

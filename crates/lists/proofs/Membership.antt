@@ -1,10 +1,13 @@
 -- What the members of a list are: of map, flatMap, keep, take, reverse, the numbers below, and what all and any say of them.
 -- A law NAME-in puts a member in, NAME-out says where a member comes from. The kit's own laws are passed on by such names: a member
--- is `here` or `further` on; nil-out, singleton-out, append-out; append-left, append-right, map-in. Assumes nothing.
+-- is `here` or `further` on, and member-cast goes to an equal element; nil-out, singleton-out, append-out; append-left, append-right,
+-- map-in. Where a member stands in its list is not here. Assumes nothing.
 use mathlib.Core.Path.{_≡_, refl, sym, ap, _∙_, subst}
 use mathlib.Core.Logic.{_⊎_, inl, inr}
 use mathlib.Core.List.{List, [], _∷_, map, flatMap, reverse, reverseAux, Memᴰ·of-map}
-pub use mathlib.Core.List.{List·Memᴰ·head as here, List·Memᴰ·tail as further, List·Memᴰ·not-nil as nil-out, List·Memᴰ·eq-of-singleton as singleton-out, List·Memᴰ·append-cases as append-out, Memᴰ·append-left as append-left, Memᴰ·append-right as append-right, Memᴰ·cast as member-cast, Memᴰ·map as map-in}
+pub use mathlib.Core.List.{List·Memᴰ·head as here, List·Memᴰ·tail as further, Memᴰ·cast as member-cast, List·Memᴰ·not-nil as nil-out}
+pub use mathlib.Core.List.{List·Memᴰ·eq-of-singleton as singleton-out, List·Memᴰ·append-cases as append-out}
+pub use mathlib.Core.List.{Memᴰ·append-left as append-left, Memᴰ·append-right as append-right, Memᴰ·map as map-in}
 use mathlib.Core.Bool.{Bool}
 use Prim.Native.Nat.{ℕ, zero, suc, _≤_, _<_}
 use native.Mathlib.Nat.{le-of-suc-le-suc, not-suc-le-zero}
@@ -33,6 +36,11 @@ module _ {A : Type 0} where
   pub member-length : {l : List A} {a : A} → a ∈ l → 0 < length l
   member-length {l = x ∷ l} m = omega arith
 
+  -- a list with a member and no more than one is that member alone
+  pub only-member : (l : List A) {a : A} → a ∈ l → length l ≤ 1 → l ≡ a ∷ []
+  only-member (x ∷ []) m h = ap (λ (y : A). y ∷ []) (sym (singleton-out m))
+  only-member (x ∷ y ∷ l) m h = absurd (omega arith)
+
   -- ---- take
 
   -- a member of a front is a member
@@ -52,6 +60,7 @@ module _ {A : Type 0} where
 
   -- ---- reverse
 
+  -- with what stands behind the part that is still to be reversed
   reverseAux-out : (l r : List A) {a : A} → a ∈ reverseAux l r → (a ∈ l) ⊎ (a ∈ r)
   reverseAux-out [] r m = inr m
   reverseAux-out (x ∷ l) r {a} m = go (reverseAux-out l (x ∷ r) m)
@@ -81,16 +90,11 @@ module _ {A : Type 0} where
     unfolding keep
     keep-no x l h = rw (false-out (p x) h)
 
-    -- nothing or all of a list is kept
+    -- nothing of a list is kept
     pub keep-none : (l : List A) → Every (λ x. T (p x) → ⊥) l → keep p l ≡ []
     unfolding keep
     keep-none [] h = refl
     keep-none (x ∷ l) h = keep-no x l (h x (here refl)) ∙ keep-none l (λ y m. h y (further m))
-
-    pub keep-every : (l : List A) → Every (λ x. T (p x)) l → keep p l ≡ l
-    unfolding keep
-    keep-every [] h = refl
-    keep-every (x ∷ l) h = keep-yes x l (h x (here refl)) ∙ ap (λ (k : List A). x ∷ k) (keep-every l (λ y m. h y (further m)))
 
     -- the kept members are those that pass
     pub keep-in : {l : List A} {a : A} → a ∈ l → T (p a) → a ∈ keep p l

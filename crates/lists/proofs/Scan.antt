@@ -29,6 +29,7 @@ module _ {A : Type 0} (p : A → Bool) (l : List A) (d : A) (i : ℕ) where
   all-done h = rw (drop-of-length-le l h)
 
 module _ {A : Type 0} (p : A → Bool) where
+  -- the first apart
   all-cons : (x : A) (l : List A) → all p (x ∷ l) ≡ true → (p x ≡ true) × (all p l ≡ true)
   unfolding all
   all-cons x l h = both (p x) (all p l) h

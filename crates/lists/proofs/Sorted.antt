@@ -1,17 +1,16 @@
--- Sorted lists, by a strict total order that is a computed test: sort sorts and keeps the members, a sorted list and each front
--- of it are fixed by their members. Assumes nothing.
-use mathlib.Core.Path.{_≡_, refl, sym, ap, ap₂, _∙_, subst}
+-- Sorted lists, by a strict total order that is a computed test: sort sorts and keeps the members, a front of a sorted list is sorted,
+-- and what stands before a member is known by the order alone. Assumes nothing.
+use mathlib.Core.Path.{_≡_, refl, sym, ap, _∙_, subst}
 use mathlib.Core.Logic.{_⊎_, inl, inr}
 use mathlib.Core.List.{List, [], _∷_, _++_}
 use mathlib.Core.Bool.{Bool}
 use Prim.Native.Nat.{ℕ, zero, suc}
 use lib.Dec.{T}
-use lib.ListN.{length, take}
-use lib.Seq.{take-length}
+use lib.ListN.{take}
 use Rattle.lists.specs.Lists.{_∈_, keep, insert, sort}
 use Rattle.lists.proofs.Tests.{test, true-out, false-out}
 use Rattle.lists.proofs.Membership.{here, further, nil-out, append-right, Every, Within, every-cons, take-out, keep-yes, keep-none}
-use Rattle.lists.proofs.Unique.{Unique, same-length}
+use Rattle.lists.proofs.Unique.{Unique}
 
 module _ {A : Type 0} (less : A → A → Bool) where
   -- each element before all after it
@@ -98,6 +97,16 @@ module _ {A : Type 0} (less : A → A → Bool) where
       go (inl k) = inl (further k)
       go (inr k) = inr (every-cons (λ y. T (less y a)) (s .0 a m) k)
 
+  -- what stands in front of a member is before it
+  pub sorted-append : (p q : List A) (z : A) → Sorted (p ++ z ∷ q) → Every (λ x. T (less x z)) p
+  sorted-append (x ∷ p) q z s y (here e) = subst (λ (u : A). T (less u z)) (sym e) (s .0 z (append-right p (here refl)))
+  sorted-append (x ∷ p) q z s y (further m) = sorted-append p q z (s .1) y m
+
+  -- so that the members can be counted, even if the order does not tell all elements apart
+  pub irreflexive-unique : ((a : A) → T (less a a) → ⊥) → (l : List A) → Sorted l → Unique l
+  irreflexive-unique never [] s = tt
+  irreflexive-unique never (x ∷ l) s = (λ m. never x (s .0 x m), irreflexive-unique never l (s .1))
+
   module _ (o : Order) where
     -- ---- sort sorts
 
@@ -114,57 +123,35 @@ module _ {A : Type 0} (less : A → A → Bool) where
 
         go : Dec (T (less a x)) → Sorted (insert less a l) → Sorted (insert less a (x ∷ l))
         go (yes h) ih = rw (insert-here a x l h) (every-cons (λ y. T (less a y)) h (λ b m. o .trans a x b h (s .0 b m)), s)
-        go (no h) ih = rw (insert-later a x l h) (λ b m. every-cons (λ y. T (less x y)) (late h (o .total a x)) (s .0) b (insert-out a l b m), ih)
+        go (no h) ih =
+            rw (insert-later a x l h) (λ b m. every-cons (λ y. T (less x y)) (late h (o .total a x)) (s .0) b (insert-out a l b m), ih)
 
+    -- so of a list without repeats
     pub sort-sorted : (l : List A) → Unique l → Sorted (sort less l)
     unfolding sort
     sort-sorted [] u = tt
     sort-sorted (x ∷ l) u = insert-sorted x (sort less l) (λ m. u .0 (sort-out l x m)) (sort-sorted l (u .1))
 
-    -- so that the members can be counted
+    -- the same of a strict total order
     pub sorted-unique : (l : List A) → Sorted l → Unique l
-    sorted-unique [] s = tt
-    sorted-unique (x ∷ l) s = (λ m. o .irrefl x (s .0 x m), sorted-unique l (s .1))
+    sorted-unique = irreflexive-unique (o .irrefl)
 
-    -- ---- fixed by their members
+    -- ---- by the order alone
 
-    -- a front of a sorted list: its members are in the list, and every other element of the list is after all of them
-    pub front : (p l : List A) → Sorted p → Sorted l → Within p l → ((a : A) → a ∈ l → (a ∈ p) ⊎ Every (λ x. T (less x a)) p) → take (length p) l ≡ p
-    front [] l sp sl w f = refl
-    front (x ∷ p) [] sp sl w f = absurd (nil-out (w x (here refl)))
-    front (x ∷ p) (y ∷ l) sp sl w f =
-        ap₂ (λ (u : A) (v : List A). u ∷ v) (sym first) (front p l (sp .1) (sl .1) (λ a m. rest a m (w a (further m))) (λ a m. others a m (f a (further m))))
-      where
-        no-cycle : T (less y x) → (y ∈ (x ∷ p)) ⊎ Every (λ u. T (less u y)) (x ∷ p) → ⊥
-        no-cycle h (inl (here e)) = o .irrefl x (subst (λ (u : A). T (less u x)) e h)
-        no-cycle h (inl (further m)) = o .irrefl x (o .trans x y x (sp .0 y m) h)
-        no-cycle h (inr g) = o .irrefl x (o .trans x y x (g x (here refl)) h)
+    -- what stands before one of the first j + 1 is one of the first j
+    pub take-before : (j : ℕ) (l : List A) → Sorted l → {e f : A} → e ∈ take (suc j) l → f ∈ l → T (less f e) → f ∈ take j l
+    take-before j [] s m k h = absurd (nil-out k)
+    take-before j (x ∷ l) s (here e) (here f) h = absurd (o .irrefl x (rw (f, e) at h))
+    take-before j (x ∷ l) s (here e) (further k) h = absurd (o .irrefl x (o .trans x _ x (s .0 _ k) (rw e at h)))
+    take-before zero (x ∷ l) s (further m) k h = absurd (nil-out m)
+    take-before (suc j) (x ∷ l) s (further m) (here f) h = here f
+    take-before (suc j) (x ∷ l) s (further m) (further k) h = further (take-before j l (s .1) m k h)
 
-        pick : x ∈ (y ∷ l) → x ≡ y
-        pick (here e) = e
-        pick (further m) = absurd (no-cycle (sl .0 x m) (f y (here refl)))
-
-        first : x ≡ y
-        first = pick (w x (here refl))
-
-        rest : (a : A) → a ∈ p → a ∈ (y ∷ l) → a ∈ l
-        rest a m (here e) = absurd (o .irrefl a (subst (λ (u : A). T (less u a)) (first ∙ sym e) (sp .0 a m)))
-        rest a m (further k) = k
-
-        others : (a : A) → a ∈ l → (a ∈ (x ∷ p)) ⊎ Every (λ u. T (less u a)) (x ∷ p) → (a ∈ p) ⊎ Every (λ u. T (less u a)) p
-        others a m (inl (here e)) = absurd (o .irrefl a (subst (λ (u : A). T (less u a)) (sym (e ∙ first)) (sl .0 a m)))
-        others a m (inl (further k)) = inl k
-        others a m (inr g) = inr (λ u k. g u (further k))
-
-    -- two sorted lists with the same members are one list
-    pub sorted-same : (s t : List A) → Sorted s → Sorted t → Within s t → Within t s → s ≡ t
-    sorted-same s t ss st w v =
-        sym (front s t ss st w (λ a m. inl (v a m)))
-        ∙ rw (same-length s t (sorted-unique s ss) (sorted-unique t st) w v) (take-length t)
-
-    -- what stands before a member of a sorted list, by the order alone
+    -- what stands before a member of a sorted list
     pub keep-before : (p q : List A) (z : A) → Sorted (p ++ z ∷ q) → keep (λ x. less x z) (p ++ z ∷ q) ≡ p
-    keep-before [] q z s = keep-none (λ x. less x z) (z ∷ q) (every-cons (λ x. T (less x z) → ⊥) (o .irrefl z) (λ x m h. o .irrefl z (o .trans z x z (s .0 x m) h)))
+    keep-before [] q z s =
+        keep-none (λ x. less x z) (z ∷ q)
+        (every-cons (λ x. T (less x z) → ⊥) (o .irrefl z) (λ x m h. o .irrefl z (o .trans z x z (s .0 x m) h)))
     keep-before (x ∷ p) q z s =
         keep-yes (λ x. less x z) x (p ++ z ∷ q) (s .0 z (append-right p (here refl)))
         ∙ ap (λ (l : List A). x ∷ l) (keep-before p q z (s .1))

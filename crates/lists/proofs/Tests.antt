@@ -2,7 +2,7 @@
 -- Not here: tests on numbers (lib.Dec; borrow.Author.Tests), a test and its negation (T-not, not-T in lib.Dec). Assumes nothing.
 use mathlib.Core.Path.{_≡_, refl}
 use mathlib.Core.Logic.{_⊎_, inl, inr}
-use mathlib.Core.Bool.{Bool, true, false, _&&_, _||_, false≢true}
+use mathlib.Core.Bool.{Bool, true, false, _&&_, _||_, and-eq-true-iff}
 use lib.Dec.{T}
 
 -- to split a proof on a test
@@ -42,7 +42,6 @@ pub or-out : (a b : Bool) → T (a || b) → T a ⊎ T b
 or-out true b h = inl tt
 or-out false b h = inr h
 
--- for tests that are compared with true, as contracts have them
+-- for tests that are compared with true, as contracts have them: the kit's law, this way only
 pub both : (a b : Bool) → (a && b) ≡ true → (a ≡ true) × (b ≡ true)
-both true b h = (refl, h)
-both false b h = absurd (false≢true h)
+both a b = and-eq-true-iff a b .0

@@ -1,5 +1,5 @@
 -- Lists without repeats: which operations keep them so, and that their members fix their length.
--- Each element once by a test is in Distinct. Assumes nothing.
+-- Making each element come once, by a test, is in Distinct. Assumes nothing.
 use mathlib.Core.Path.{_≡_, refl, sym, ap, _∙_}
 use mathlib.Core.Logic.{_⊎_, inl, inr}
 use mathlib.Core.List.{List, [], _∷_, _++_, map, flatMap}
@@ -11,7 +11,8 @@ use lib.Dec.{T}
 use lib.ListN.{length}
 use Rattle.lists.specs.Lists.{_∈_, keep, below}
 use Rattle.lists.proofs.Tests.{test}
-use Rattle.lists.proofs.Membership.{here, further, append-out, member-cast, Within, keep-yes, keep-no, keep-out, map-out, flatMap-out, Mapped, FlatMapped, below-out}
+use Rattle.lists.proofs.Membership.{here, further, append-out, member-cast, Within, keep-yes, keep-no, keep-out, below-out}
+use Rattle.lists.proofs.Membership.{Mapped, map-out, FlatMapped, flatMap-out}
 
 module _ {A : Type 0} where
   -- no element twice
@@ -45,11 +46,13 @@ module _ {A : Type 0} where
   without (x ∷ xs) (here e) = xs
   without (x ∷ xs) (further m) = x ∷ without xs m
 
+  -- it is one shorter
   length-without : {a : A} (l : List A) (m : a ∈ l) → length l ≡ suc (length (without l m))
   unfolding without
   length-without (x ∷ xs) (here e) = refl
   length-without (x ∷ xs) (further m) = ap suc (length-without xs m)
 
+  -- and has every other member
   without-in : {a b : A} (l : List A) (m : a ∈ l) → (b ≡ a → ⊥) → b ∈ l → b ∈ without l m
   unfolding without
   without-in (x ∷ xs) (here e) d (here f) = absurd (d (f ∙ sym e))
@@ -62,7 +65,8 @@ module _ {A : Type 0} where
   length-within [] t u w = omega arith
   length-within (x ∷ s) t u w =
       let m : x ∈ t = w x (here refl) in
-      let ih : length s ≤ length (without t m) = length-within s (without t m) (u .1) (λ a k. without-in t m (λ e. u .0 (member-cast (sym e) k)) (w a (further k))) in
+      let ih : length s ≤ length (without t m) =
+      length-within s (without t m) (u .1) (λ a k. without-in t m (λ e. u .0 (member-cast (sym e) k)) (w a (further k))) in
       omega (arith, length-without t m)
 
   -- to count by members alone
@@ -79,10 +83,12 @@ module _ {A B : Type 0} where
       go r = u .0 (member-cast (inj x (r .source) (here refl) (further (r .member)) (r .equal)) (r .member))
 
   -- the lists are without repeats, and no two of them share a member
-  pub flatMap-unique : (f : A → List B) (l : List A) → ((a : A) → Unique (f a)) → ((a b : A) (c : B) → c ∈ f a → c ∈ f b → a ≡ b) → Unique l → Unique (flatMap f l)
+  pub flatMap-unique : (f : A → List B) (l : List A) → ((a : A) → Unique (f a)) → ((a b : A) (c : B) → c ∈ f a → c ∈ f b → a ≡ b) → Unique l
+      → Unique (flatMap f l)
   unfolding flatMap
   flatMap-unique f [] each apart u = tt
-  flatMap-unique f (x ∷ l) each apart u = append-unique (f x) (flatMap f l) (each x) (flatMap-unique f l each apart (u .1)) (λ c m n. go c m (flatMap-out f l n))
+  flatMap-unique f (x ∷ l) each apart u =
+      append-unique (f x) (flatMap f l) (each x) (flatMap-unique f l each apart (u .1)) (λ c m n. go c m (flatMap-out f l n))
     where
       go : (c : B) → c ∈ f x → FlatMapped f l c → ⊥
       go c m r = u .0 (member-cast (apart x (r .source) c m (r .inner)) (r .member))

@@ -1,5 +1,5 @@
--- Lists of numbers grown by one number at the front: every list of ps with every number below n put before it. The paths of a
--- trellis and its messages are made so. Assumes nothing.
+-- Lists of numbers grown by one number at the front: which they are, and that none comes twice. The paths of a trellis and its
+-- messages are made so. Assumes nothing.
 use mathlib.Core.Path.{_≡_}
 use mathlib.Core.List.{List, _∷_, map, flatMap}
 use Prim.Native.Nat.{ℕ, _<_}
@@ -7,6 +7,7 @@ use Rattle.lists.specs.Lists.{_∈_, below}
 use Rattle.lists.proofs.Membership.{map-in, map-out, flatMap-in, flatMap-out, below-in, below-out}
 use Rattle.lists.proofs.Unique.{Unique, map-unique, flatMap-unique, below-unique}
 
+-- every list of ps, each number below n put before it
 abbrev pub grown : ℕ → List (List ℕ) → List (List ℕ)
 grown n ps = flatMap (λ p. map (λ b. b ∷ p) (below n)) ps
 
