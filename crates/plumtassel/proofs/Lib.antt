@@ -1,6 +1,5 @@
 pub mod Encoder
 pub mod Decoder
-pub mod Ranks
 pub mod Sheet
 pub mod Check
 pub mod Front

@@ -10,10 +10,7 @@ use lib.IntN.{ℤ}
 use lib.ListN.{length, take, drop}
 use Rattle.codes.specs.declared.table.Code.{Code}
 use Rattle.trellis.specs.Trellis.{Trellis}
-use Rattle.trellis.specs.Verdict.{steps}
-use Rattle.trellis.proofs.Messages.{terminal-reached}
-use Rattle.trellis.proofs.MetNodes.{steps-few}
-use Rattle.trellis.proofs.HonestRanked.{length-honest}
+use Rattle.trellis.proofs.HonestRows.{length-answered}
 use Rattle.blocks.specs.Symbols.{view}
 use Rattle.blocks.specs.Blocks.{trellisOf}
 use Rattle.blocks.proofs.Closing.{trellis-lawful}
@@ -27,7 +24,6 @@ use Rattle.writer.specs.declared.writer.DecodedSheet.{DecodedSheet}
 use Rattle.writer.specs.declared.writer.DecodedSheet.the-variants.{Done, BadCode, BadSize, NoRoom, NoAllowance, Tied, NoSheetRoom}
 use Rattle.plumtassel.specs.Face.{sheeted}
 use Rattle.plumtassel.specs.Made.{longestSheet, sheetAnswer}
-use Rattle.plumtassel.proofs.Ranks.{ranked-met}
 
 -- for every return: the struct and the buffers say what `told` says
 pub sheet-told : (d : DecodedSheet) (message sheet : List ℕ) → sheeted (told d message sheet) ≡ (sheetAnswer d, message, sheet)
@@ -60,7 +56,7 @@ module _ (c : Code) (l : ℕ) (symbols : List ℤ) (room allowance words : ℕ) 
   abbrev t : Trellis
   t = trellisOf c l (view symbols)
 
-  -- E + 1 entries, no more than the room
+  -- no more entries than the room
   honest-size : d .number ≡ 0 → length (honestBytes c l symbols d) ≤ longestSheet
   unfolding honestBytes
   honest-size z =
@@ -70,9 +66,7 @@ module _ (c : Code) (l : ℕ) (symbols : List ℤ) (room allowance words : ℕ) 
       omega (
         arith,
         length-sheetBytes l (honestSheet t (take l (d .message))),
-        length-honest law,
-        ranked-met t (steps t) (steps-few t (terminal-reached law)),
-        a .answerable .roomy,
+        length-answered law room allowance (a .answerable .allowed) (a .answerable .roomy),
         sizes .long,
         sizes .small,
       )

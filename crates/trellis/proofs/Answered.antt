@@ -8,13 +8,12 @@ use native.Mathlib.Omega.{arith}
 use borrow.Author.Tests.{ltb-false}
 use lib.Dec.{ltb}
 use Rattle.lists.specs.Lists.{_∈_}
-use Rattle.lists.proofs.Membership.{here, singleton-out, map-in, map-out}
+use Rattle.lists.proofs.Membership.{here, singleton-out, only-member, map-in, map-out}
 use Rattle.lists.proofs.Least.{least-le, least-of}
 use Rattle.lists.proofs.Unique.{length-within}
 use Rattle.trellis.specs.Trellis.{Trellis}
 use Rattle.trellis.specs.Verdict.{steps, met, messages, leastMetric, leastMessages, answered, roomShort, allowanceSpent, lastFit, decided, verdict}
 use Rattle.trellis.proofs.Messages.{metricOf, Least, leastMessages-in, leastMessages-out, leastMessages-unique}
-use Rattle.trellis.proofs.Found.{one}
 use Rattle.trellis.proofs.Verdicts.{verdict-found}
 
 -- ---- in words
@@ -41,6 +40,7 @@ unfolding leastMetric
 least-below t m = least-le _ (map-in (metricOf t) m)
 
 module _ {t : Trellis} {w : List ℕ} where
+  -- its metric is the least
   pub alone-paid : Alone t w → metricOf t w ≡ leastMetric t
   unfolding leastMetric
   alone-paid a =
@@ -48,14 +48,16 @@ module _ {t : Trellis} {w : List ℕ} where
       let e : v .source ≡ w = a .only (v .source) (v .member) (omega (arith, v .equal, least-below t (a .member))) in
       ap (metricOf t) (sym e) ∙ sym (v .equal)
 
+  -- and it is the only least message
   pub alone-in : Alone t w → leastMessages t ≡ w ∷ []
   alone-in a =
-      one (leastMessages t) (leastMessages-in (record { member = a .member; paid = alone-paid a }))
+      only-member (leastMessages t) (leastMessages-in (record { member = a .member; paid = alone-paid a }))
       (length-within (leastMessages t) (w ∷ []) (leastMessages-unique t) (λ v m. here (within v (leastMessages-out t m))))
     where
       within : (v : List ℕ) → Least t v → v ≡ w
       within v k = a .only v (k .member) (omega (arith, k .paid, alone-paid a))
 
+-- and back
 alone-out : (t : Trellis) {w : List ℕ} → leastMessages t ≡ w ∷ [] → Alone t w
 alone-out t {w} e =
     let k : Least t w = leastMessages-out t (subst (λ (l : List (List ℕ)). w ∈ l) (sym e) (here refl)) in
@@ -83,13 +85,14 @@ pub record Answer (t : Trellis) (room allowance : ℕ) (w : List ℕ) (m done : 
   pub paid : m ≡ metricOf t w
   pub ended : done ≡ steps t
 
-pub answered-out : (t : Trellis) (room allowance : ℕ) (w : List ℕ) (m done : ℕ) → verdict t room allowance ≡ answered w m done → Answer t room allowance w m done
+pub answered-out : (t : Trellis) (room allowance : ℕ) (w : List ℕ) (m done : ℕ) → verdict t room allowance ≡ answered w m done
+    → Answer t room allowance w m done
 unfolding verdict decided
 answered-out t room allowance w m done =
     go (ltb room (met t (min (steps t) allowance))) (ltb allowance (steps t)) refl refl
   where
-    last : (l : List (List ℕ)) → leastMessages t ≡ l → steps t ≤ allowance → met t (min (steps t) allowance) ≤ room → decided t l ≡ answered w m done
-        → Answer t room allowance w m done
+    last : (l : List (List ℕ)) → leastMessages t ≡ l → steps t ≤ allowance → met t (min (steps t) allowance) ≤ room
+        → decided t l ≡ answered w m done → Answer t room allowance w m done
     last [] e h k p = let z : _≡_ {A = ℕ} 0 1 = cc (p) in absurd (omega arith)
     last (v ∷ []) e h k p =
         let same : v ≡ w = cc (p) in
@@ -104,8 +107,10 @@ answered-out t room allowance w m done =
     last (v ∷ u ∷ more) e h k p = let z : _≡_ {A = ℕ} 0 1 = cc (p) in absurd (omega arith)
 
     go : (p q : Bool) → ltb room (met t (min (steps t) allowance)) ≡ p → ltb allowance (steps t) ≡ q
-        → cond p (roomShort (lastFit t room (min (steps t) allowance))) (cond q (allowanceSpent allowance) (decided t (leastMessages t))) ≡ answered w m done
+        → cond p (roomShort (lastFit t room (min (steps t) allowance))) (cond q (allowanceSpent allowance) (decided t (leastMessages t)))
+        ≡ answered w m done
         → Answer t room allowance w m done
     go true q e f h = let z : _≡_ {A = ℕ} 0 1 = cc (h) in absurd (omega arith)
     go false true e f h = let z : _≡_ {A = ℕ} 0 1 = cc (h) in absurd (omega arith)
-    go false false e f h = last (leastMessages t) refl (ltb-false allowance (steps t) f) (ltb-false room (met t (min (steps t) allowance)) e) h
+    go false false e f h =
+        last (leastMessages t) refl (ltb-false allowance (steps t) f) (ltb-false room (met t (min (steps t) allowance)) e) h

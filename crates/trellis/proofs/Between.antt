@@ -4,14 +4,14 @@
 use mathlib.Core.Path.{_≡_, refl, sym, ap, _∙_, subst}
 use mathlib.Core.Logic.{_⊎_, inl, inr}
 use mathlib.Core.List.{List, [], _∷_, _++_}
-use mathlib.Core.Bool.{Bool, true, false}
+use mathlib.Core.Bool.{Bool, true, false, true≢false}
 use Prim.Native.Nat.{ℕ, zero, suc, _≤_, _<_, min}
 use native.Mathlib.Decide.{decLt}
 use native.Mathlib.Omega.{arith}
 use lib.Dec.{T}
 use lib.ListN.{length, take}
 use Rattle.lists.specs.Lists.{_∈_, keep}
-use Rattle.lists.proofs.Membership.{nil-out, member-cast, take-out, keep-in, keep-out}
+use Rattle.lists.proofs.Membership.{nil-out, member-cast, take-out, Kept, keep-in, keep-out}
 use Rattle.lists.proofs.Unique.{keep-unique}
 use Rattle.trellis.specs.Trellis.{Trellis, terminal}
 use Rattle.trellis.specs.Verdict.{Entry, entry, priced, before, ranked, met}
@@ -21,9 +21,10 @@ use Rattle.trellis.proofs.Paths.{Reached, node-path}
 use Rattle.trellis.proofs.Cost.{cost-computed}
 use Rattle.trellis.proofs.Order.{before-order, entry-path, onto-later}
 use Rattle.trellis.proofs.Ranked.{Priced, ranked-out}
-use Rattle.trellis.proofs.Step.{AtMost, at-most-before, Attained, Closed, Offered, Frontier, all-closed, ranked-after, next-exact, next-ranked}
+use Rattle.trellis.proofs.Step.{AtMost, at-most-before, Attained, Closed, Offered, Frontier, all-closed}
+use Rattle.trellis.proofs.Step.{ranked-after, next-exact, next-ranked}
 use Rattle.trellis.proofs.Sharing.{Branch, branch, lands, Fits, LeastBranches, shared, starting, total, sharing-total}
-use Rattle.trellis.proofs.Rows.{true-false, First, firstOpen-is}
+use Rattle.trellis.proofs.Rows.{First, firstOpen-is}
 use Rattle.trellis.proofs.Table.{alike, alike-equality, arriving, ways, Covered, Table, Taken}
 use Rattle.trellis.proofs.Trace.{row-attained}
 use Rattle.trellis.proofs.RowsMet.{rows-met}
@@ -64,7 +65,7 @@ started-between t cap room c r = record {
 }
   where
     live : (i : ℕ) → i < 1 → rowAt started i .closed ≡ true → ⊥
-    live zero h e = true-false (sym e)
+    live zero h e = true≢false (sym e)
     live (suc i) h e = omega arith
 
     counted′ : (i : ℕ) → i < 1 → rowAt started i .count ≡ min cap (ways t [] (entryAt started i))
@@ -90,7 +91,7 @@ module _ {t : Trellis} {cap room j : ℕ} {rows : List Row} (M : Between t cap r
   open-apart i h e m =
       let s = M .table .stored (priced t (nodeAt rows i)) m in
       let k : s .row ≡ i = M .table .once (s .row) i (s .within) h (ap (λ (u : Entry). u .node) (s .equal)) in
-      true-false (sym (s .shut) ∙ ap (λ (u : ℕ). rowAt rows u .closed) k ∙ e)
+      true≢false (sym (s .shut) ∙ ap (λ (u : ℕ). rowAt rows u .closed) k ∙ e)
 
   -- the open rows are the frontier of the closed nodes
   pub frontier-rows : Frontier t j (OpenRow rows)
@@ -117,7 +118,8 @@ module _ {t : Trellis} {cap room j : ℕ} {rows : List Row} (M : Between t cap r
           go : (shut : Bool) → rowAt rows (k .row) .closed ≡ shut → Closed t j (e .node) ⊎ Offered (OpenRow rows) e
           go true c = inl (rw (k .equal) at (closed-in t j (entryAt rows (k .row)) (M .table .shut (k .row) (k .within) c)))
           go false c =
-              let o : OpenRow rows (record { cost = costAt rows (k .row); node = e .node }) = record { row = k .row; within = k .within; live = c; equal = entry-path refl (k .equal) } in
+              let o : OpenRow rows (record { cost = costAt rows (k .row); node = e .node }) =
+              record { row = k .row; within = k .within; live = c; equal = entry-path refl (k .equal) } in
               inr (record { cost = costAt rows (k .row); here = o; small = k .small })
 
   -- the rows are as many as D(j)
@@ -146,13 +148,15 @@ module _ {t : Trellis} {cap room j i : ℕ} {rows : List Row} (M : Between t cap
   abbrev z : Entry
   z = entryAt rows i
 
+  -- it is open, and no open row is before it
   zin : OpenRow rows z
   zin = record { row = i; within = h; live = f .live h; equal = refl }
 
   zmin : (e : Entry) → OpenRow rows e → AtMost z e
   zmin e o = subst (λ (u : Entry). AtMost z u) (o .equal) (go (before-order .total z (entryAt rows (o .row))))
     where
-      go : T (before z (entryAt rows (o .row))) ⊎ ((z ≡ entryAt rows (o .row)) ⊎ T (before (entryAt rows (o .row)) z)) → AtMost z (entryAt rows (o .row))
+      go : T (before z (entryAt rows (o .row))) ⊎ ((z ≡ entryAt rows (o .row)) ⊎ T (before (entryAt rows (o .row)) z))
+          → AtMost z (entryAt rows (o .row))
       go (inl b) = inr b
       go (inr (inl e)) = inl e
       go (inr (inr b)) = absurd (f .least (o .row) (o .within) (o .live) b)
@@ -169,7 +173,7 @@ module _ {t : Trellis} {cap room j i : ℕ} {rows : List Row} (M : Between t cap
         (subst (λ (x : Entry). T (alike (lands t g) x)) e (alike-equality .complete (lands t g))));
   }
     where
-      kept : (g : Branch) → g ∈ arriving t (M .taken) z → Rattle.lists.proofs.Membership.Kept (λ g. alike (lands t g) z) (M .taken) g
+      kept : (g : Branch) → g ∈ arriving t (M .taken) z → Kept (λ g. alike (lands t g) z) (M .taken) g
       kept g m = keep-out (λ g. alike (lands t g) z) (M .taken) m
 
       pick : (g : Branch) → (g ∈ M .taken) ⊎ ⊥ → g ∈ M .taken
@@ -177,7 +181,8 @@ module _ {t : Trellis} {cap room j i : ℕ} {rows : List Row} (M : Between t cap
       pick g (inr m) = absurd m
 
       -- what a branch brings stands later than its source, so the source of z's branch stands before z
-      inside : (g : Branch) → Priced t (g .source) → Fits t g → lands t g ≡ z → (g .source ∈ take j (ranked t)) ⊎ AtMost z (g .source) → g ∈ M .taken
+      inside : (g : Branch) → Priced t (g .source) → Fits t g → lands t g ≡ z → (g .source ∈ take j (ranked t)) ⊎ AtMost z (g .source)
+          → g ∈ M .taken
       inside g p u e (inl m) = pick g (M .all .full g m u)
       inside g p u e (inr a) =
           let b : T (before (g .source) z) = subst (λ (x : Entry). T (before (g .source) x)) e (onto-later t (g .source) (g .input)) in

@@ -3,7 +3,7 @@
 use mathlib.Core.Path.{_≡_, refl, sym, ap, ap₂, _∙_, subst}
 use mathlib.Core.Logic.{_⊎_, inl, inr}
 use mathlib.Core.List.{List, [], _∷_}
-use mathlib.Core.Bool.{Bool, true, false}
+use mathlib.Core.Bool.{Bool, true, false, true≢false}
 use Prim.Native.Nat.{ℕ, zero, suc, _+_, _≤_, _<_, min}
 use native.Mathlib.Decide.{ℕ-discrete}
 use native.Mathlib.Omega.{arith}
@@ -18,7 +18,7 @@ use Rattle.trellis.proofs.Cost.{cost-computed}
 use Rattle.trellis.proofs.Order.{entry-path}
 use Rattle.trellis.proofs.Step.{Closed}
 use Rattle.trellis.proofs.Sharing.{Branch, Fits, shared}
-use Rattle.trellis.proofs.Rows.{true-false, Changed, set-changed, First}
+use Rattle.trellis.proofs.Rows.{Changed, set-changed, First}
 use Rattle.trellis.proofs.Table.{ways, Link, Stored, Covered, Table, Taken}
 use Rattle.trellis.proofs.Relax.{From, Amid, Going, relax-going}
 use Rattle.trellis.proofs.Between.{Between, Next, open-apart, between-next}
@@ -70,6 +70,7 @@ module _ {t : Trellis} {cap room j i : ℕ} {rows : List Row} (M : Between t cap
   abbrev z : Entry
   z = entryAt rows i
 
+  -- the rows are as many as before, and row i is closed
   at : (k : ℕ) → k < length (closed rows i) → Shut rows i k
   at k l = shut-row rows i k h (omega (arith, length-set rows i (shut (rowAt rows i))))
 
@@ -93,6 +94,7 @@ module _ {t : Trellis} {cap room j i : ℕ} {rows : List Row} (M : Between t cap
       go (inl k) = inl k
       go (inr k) = inr (singleton-out k)
 
+  -- the table with row i closed
   table-closed : Table t cap (suc j) (M .taken) (closed rows i)
   table-closed = record {
     some = longer 0 (M .table .some);
@@ -195,7 +197,13 @@ pub amid-end : {t : Trellis} {cap room j i : ℕ} {z : Entry} {b : ℕ} {rows : 
 amid-end {t} {cap} {room} {j} {i} {z} {b} {rows} M h = record {
   taken = M .taken;
   table = M .table;
-  all = record { once = M .all .once; sources = M .all .sources; fits = M .all .fits; new = (λ f m p. p); full = (λ f m u. inl (pick f u (M .all .full f m u))) };
+  all = record {
+    once = M .all .once;
+    sources = M .all .sources;
+    fits = M .all .fits;
+    new = (λ f m p. p);
+    full = (λ f m u. inl (pick f u (M .all .full f m u)));
+  };
   held = M .held;
 }
   where
@@ -204,17 +212,19 @@ amid-end {t} {cap} {room} {j} {i} {z} {b} {rows} M h = record {
     pick f u (inr p) = absurd (omega (arith, u, p .1, ap (λ (e : Entry). allowed t (e .node .level)) (p .0 ∙ M .here)))
 
 -- going on after a try
-onward-going : {P Q : List Row → Type 0} {S : Type 0} (rows : List Row) (full : Bool) (next : List Row → Tried) → Going P S (record { rows = rows; full = full })
+onward-going : {P Q : List Row → Type 0} {S : Type 0} (rows : List Row) (full : Bool) (next : List Row → Tried)
+    → Going P S (record { rows = rows; full = full })
     → ((after : List Row) → P after → Going Q S (next after)) → Going Q S (onward (record { rows = rows; full = full }) next)
 unfolding onward
-onward-going rows true next G f = record { went = (λ e. absurd (true-false e)); stuck = (λ _. G .stuck refl) }
+onward-going rows true next G f = record { went = (λ e. absurd (true≢false e)); stuck = (λ _. G .stuck refl) }
 onward-going rows false next G f = f rows (G .went refl)
 
 -- the branches from an input upwards
-pub fan-going : {t : Trellis} {cap room j i : ℕ} {z : Entry} (left : ℕ) {b : ℕ} {rows : List Row} → Amid t cap room j i z b rows → left + b ≡ allowed t (z .node .level)
+pub fan-going : {t : Trellis} {cap room j i : ℕ} {z : Entry} (left : ℕ) {b : ℕ} {rows : List Row}
+    → Amid t cap room j i z b rows → left + b ≡ allowed t (z .node .level)
     → Going (Between t cap room j) (room < met t j) (fan t cap room i left b rows)
 unfolding fan
-fan-going zero M e = record { went = (λ _. amid-end M (omega arith)); stuck = (λ c. absurd (true-false (sym c))) }
+fan-going zero M e = record { went = (λ _. amid-end M (omega arith)); stuck = (λ c. absurd (true≢false (sym c))) }
 fan-going {t} {cap} {room} {i = i} (suc left) {b = b} {rows = rows} M e =
     let r : Tried = relax t cap room i b rows in
     onward-going (r .rows) (r .full) (λ next. fan t cap room i left (suc b) next)
@@ -222,7 +232,9 @@ fan-going {t} {cap} {room} {i = i} (suc left) {b = b} {rows = rows} M e =
     (λ next m. fan-going left m (omega arith))
 
 -- THE SEARCH'S STEP: the first open row, if it is not the terminal's, is closed and all of its branches are taken
-pub expand-going : {t : Trellis} {cap room j i : ℕ} {rows : List Row} → Between t cap room j rows → First rows i → i < length rows → (nodeAt rows i ≡ terminal t → ⊥)
+pub expand-going : {t : Trellis} {cap room j i : ℕ} {rows : List Row}
+    → Between t cap room j rows → First rows i → i < length rows → (nodeAt rows i ≡ terminal t → ⊥)
     → Going (Between t cap room (suc j)) (room < met t (suc j)) (expand t cap room i rows)
 unfolding expand
-expand-going {t} {i = i} {rows = rows} M f h off = fan-going (allowed t (nodeAt rows i .level)) (closed-amid M h (f .live h) (between-next M f h) off) (omega arith)
+expand-going {t} {i = i} {rows = rows} M f h off =
+    fan-going (allowed t (nodeAt rows i .level)) (closed-amid M h (f .live h) (between-next M f h) off) (omega arith)

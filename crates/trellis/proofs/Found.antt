@@ -11,7 +11,7 @@ use lib.Dec.{leb}
 use borrow.Author.Tests.{le-leb, lt-leb}
 use lib.ListN.{length}
 use Rattle.lists.specs.Lists.{_∈_}
-use Rattle.lists.proofs.Membership.{singleton-out}
+use Rattle.lists.proofs.Membership.{only-member}
 use Rattle.trellis.specs.Trellis.{Trellis, Path, Node, top, terminal}
 use Rattle.trellis.specs.Verdict.{steps, leastMetric, leastMessages, answered, tied, decided}
 use Rattle.trellis.specs.Lawful.{Lawful, messageOf}
@@ -24,11 +24,6 @@ use Rattle.trellis.proofs.Sharing.{sharing}
 use Rattle.trellis.proofs.Rows.{First}
 use Rattle.trellis.proofs.Trace.{trace-attains}
 use Rattle.trellis.proofs.Between.{Between, Next, between-next}
-
--- a list of one
-pub one : {A : Type 0} (l : List A) {a : A} → a ∈ l → length l ≤ 1 → l ≡ a ∷ []
-one (x ∷ []) m h = ap (λ (y : _). y ∷ []) (sym (singleton-out m))
-one (x ∷ y ∷ l) m h = absurd (omega arith)
 
 -- what an answer carries
 pub record Right (t : Trellis) (cap : ℕ) (rows : List Row) (metric done count i : ℕ) : Type 0 where
@@ -43,6 +38,7 @@ pub record Right (t : Trellis) (cap : ℕ) (rows : List Row) (metric done count 
 
 module _ {t : Trellis} (law : Lawful t) {cap room j i : ℕ} {rows : List Row} (M : Between t cap room j rows)
     (f : First rows i) (h : i < length rows) (e : nodeAt rows i ≡ terminal t) where
+  -- what is known of the terminal's row: the next ranked node, at the terminal's cost, and the path that its trace is
   next : Next t cap j i rows
   next = between-next M f h
 
@@ -54,6 +50,7 @@ module _ {t : Trellis} (law : Lawful t) {cap room j i : ℕ} {rows : List Row} (
       subst (λ (x : Node). Attains t (record { cost = costAt rows i; node = x }) (trace rows (top t) i)) e
       (trace-attains (M .table) (top t) i h (ap (λ (x : Node). x .level) e))
 
+  -- the least paths to the terminal
   least-paths : LeastPaths t (terminal t) (costAt rows i) (sharing t (entryAt rows i))
   least-paths = subst (λ (x : Node). LeastPaths t x (costAt rows i) (sharing t (entryAt rows i))) e (leastPaths t (nodeAt rows i) (costAt rows i))
 
@@ -82,6 +79,6 @@ module _ {t : Trellis} (law : Lawful t) {cap room j i : ℕ} {rows : List Row} (
       go (yes l) =
           rw (lt-leb (rowAt rows i .count) 1 (omega (arith, next .counted)), ← found-right .ended) (sym (decided-tied law found-cost least-paths l))
       go (no l) =
-          let q : sharing t (entryAt rows i) ≡ p ∷ [] = one (sharing t (entryAt rows i)) member (omega arith) in
+          let q : sharing t (entryAt rows i) ≡ p ∷ [] = only-member (sharing t (entryAt rows i)) member (omega arith) in
           rw (le-leb (rowAt rows i .count) 1 (omega (arith, next .counted)), ← found-right .ended)
           (sym (decided-answered law found-cost (subst (LeastPaths t (terminal t) (costAt rows i)) q least-paths)))

@@ -1,6 +1,6 @@
 -- The honest sheet: exactly the reachable nodes of cost at most M, with their costs, strictly sorted by level, then state; the
 -- terminal is among them where M is its cost. That it carries its claim is in SheetComplete. Assumes nothing.
-use mathlib.Core.Path.{refl, subst, sym}
+use mathlib.Core.Path.{_≡_, refl, subst, sym}
 use mathlib.Core.List.{List, map}
 use mathlib.Core.Bool.{Bool}
 use Prim.Native.Nat.{ℕ, _≤_}
@@ -44,8 +44,9 @@ module _ (t : Trellis) (m : ℕ) where
   pub honest-in : {e : Entry} → Due t m e → e ∈ honest t m
   unfolding honest
   honest-in {e} h =
+      let own : e ≡ priced t (e .node) = entry-path (cost-computed (h .priced)) refl in
       sort-in lower listing e
-      (keep-in (λ e. leb (e .cost) m) (member-cast (entry-path (cost-computed (h .priced)) refl) (map-in (priced t) (reachable-in (h .priced .there)))) (le→leb (e .cost) m (h .within)))
+      (keep-in (λ e. leb (e .cost) m) (member-cast own (map-in (priced t) (reachable-in (h .priced .there)))) (le→leb (e .cost) m (h .within)))
 
   -- for completeness: nothing else is in
   pub honest-out : {e : Entry} → e ∈ honest t m → Due t m e
@@ -64,7 +65,8 @@ module _ (t : Trellis) (m : ℕ) where
   unfolding honest
   honest-sorted =
       rw (keep-map (priced t) (λ e. leb (e .cost) m) (reachable t), sort-map (priced t) lower)
-      (map-sorted (priced t) lower (sort earlier cheap) (sort-sorted earlier earlier-order cheap (keep-unique (λ x. leb (cost t x) m) (reachable t) (reachable-unique t))))
+      (map-sorted (priced t) lower (sort earlier cheap)
+      (sort-sorted earlier earlier-order cheap (keep-unique (λ x. leb (cost t x) m) (reachable t) (reachable-unique t))))
     where
       cheap : List Node
       cheap = keep (λ x. leb (cost t x) m) (reachable t)

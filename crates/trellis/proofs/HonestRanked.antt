@@ -2,41 +2,32 @@
 -- search that ends at the terminal has met them all. Where the rows hold them is in HonestRows. Assumes nothing.
 use mathlib.Core.Path.{_≡_, refl, sym, ap, _∙_, subst}
 use mathlib.Core.Logic.{_⊎_, inl, inr}
-use mathlib.Core.List.{List, [], _∷_, _++_}
+use mathlib.Core.List.{[], _∷_, _++_}
 use Prim.Native.Nat.{suc, _≤_}
 use native.Mathlib.Omega.{arith}
 use lib.Dec.{T}
 use lib.ListN.{length, take, length-take}
 use Rattle.lists.specs.Lists.{_∈_}
-use Rattle.lists.proofs.Membership.{here, further, append-out, append-right, singleton-out, Every, Within, take-out}
-use Rattle.lists.proofs.Unique.{Unique, same-length}
-use Rattle.lists.proofs.Sorted.{Sorted, take-sorted, take-or-after, sorted-unique}
+use Rattle.lists.proofs.Membership.{here, append-out, append-right, singleton-out, Every, Within, take-out}
+use Rattle.lists.proofs.Unique.{same-length}
+use Rattle.lists.proofs.Sorted.{Sorted, take-sorted, take-or-after, sorted-append, irreflexive-unique}
 use Rattle.trellis.specs.Trellis.{Trellis, terminal}
 use Rattle.trellis.specs.Verdict.{Entry, priced, before, ranked, steps, leastMetric}
 use Rattle.trellis.specs.Sheet.{honest}
 use Rattle.trellis.specs.Lawful.{Lawful}
 use Rattle.trellis.proofs.Paths.{path-short}
 use Rattle.trellis.proofs.Cost.{cost-computed}
-use Rattle.trellis.proofs.Order.{Earlier, Before, earlier-order, before-out, before-order}
+use Rattle.trellis.proofs.Order.{Earlier, Before, earlier-order, before-out}
 use Rattle.trellis.proofs.Ranked.{ranked-in, ranked-out, ranked-sorted}
 use Rattle.trellis.proofs.Messages.{terminal-reached, leastMetric-cost}
-use Rattle.trellis.proofs.MetNodes.{terminal-comes, steps-few}
+use Rattle.trellis.proofs.MetNodes.{front-unique, terminal-comes, steps-few}
 use Rattle.trellis.proofs.Honest.{Due, lower, honest-in, honest-out, honest-sorted}
-
--- all before the last
-sorted-last : (p : List Entry) (z : Entry) → Sorted before (p ++ z ∷ []) → Every (λ x. T (before x z)) p
-sorted-last (x ∷ p) z s y (here e) = subst (λ (u : Entry). T (before u z)) (sym e) (s .0 z (append-right p (here refl)))
-sorted-last (x ∷ p) z s y (further m) = sorted-last p z (s .1) y m
-
--- none twice, as no node is lower than itself
-lower-unique : (l : List Entry) → Sorted lower l → Unique l
-lower-unique [] s = tt
-lower-unique (x ∷ l) s = (λ m. earlier-order .irrefl (x .node) (s .0 x m), lower-unique l (s .1))
 
 module _ {t : Trellis} (law : Lawful t) where
   abbrev z : Entry
   z = priced t (terminal t)
 
+  -- it costs the least metric
   least-cost : leastMetric t ≡ z .cost
   least-cost = cost-computed (leastMetric-cost law)
 
@@ -46,7 +37,9 @@ module _ {t : Trellis} (law : Lawful t) where
     where
       level : Earlier (terminal t) (e .node) → ⊥
       level (inl h) = omega (arith, path-short (d .priced .there .allowed), d .priced .there .level)
-      level (inr h) = omega (arith, law .closes (d .priced .path) (d .priced .there .allowed) (d .priced .there .level ∙ sym (h .0)), d .priced .there .state, h .1)
+      level (inr h) =
+          let there = d .priced .there in
+          omega (arith, law .closes (d .priced .path) (there .allowed) (there .level ∙ sym (h .0)), there .state, h .1)
 
       go : Before z e → ⊥
       go (inl h) = omega (arith, d .within, least-cost)
@@ -61,27 +54,34 @@ module _ {t : Trellis} (law : Lawful t) where
       go : Due t (leastMetric t) e → (e ∈ take (suc (steps t)) (ranked t)) ⊎ Every (λ x. T (before x e)) (take (suc (steps t)) (ranked t))
           → e ∈ take (suc (steps t)) (ranked t)
       go d (inl k) = k
-      go d (inr f) = absurd (terminal-last e d (f z (rw (terminal-comes t (terminal-reached law)) (append-right (take (steps t) (ranked t)) (here refl)))))
+      go d (inr f) =
+          absurd (terminal-last e d (f z (rw (terminal-comes t (terminal-reached law)) (append-right (take (steps t) (ranked t)) (here refl)))))
 
   -- and all of them are in it
   pub front-honest : Within (take (suc (steps t)) (ranked t)) (honest t (leastMetric t))
-  front-honest e m = honest-in t (leastMetric t) (record { priced = ranked-out t (take-out (suc (steps t)) (ranked t) e m); within = go (append-out (take (steps t) (ranked t)) (rw comes at m)) })
+  front-honest e m = honest-in t (leastMetric t) (record {
+    priced = ranked-out t (take-out (suc (steps t)) (ranked t) e m);
+    within = go (append-out (take (steps t) (ranked t)) (rw comes at m));
+  })
     where
       comes : take (suc (steps t)) (ranked t) ≡ take (steps t) (ranked t) ++ (z ∷ [])
       comes = terminal-comes t (terminal-reached law)
+
+      sorted : Sorted before (take (suc (steps t)) (ranked t))
+      sorted = take-sorted before (suc (steps t)) (ranked t) (ranked-sorted t)
 
       low : Before e z → e .cost ≤ leastMetric t
       low (inl h) = omega (arith, least-cost)
       low (inr h) = omega (arith, h .0, least-cost)
 
       go : (e ∈ take (steps t) (ranked t)) ⊎ (e ∈ (z ∷ [])) → e .cost ≤ leastMetric t
-      go (inl k) = low (before-out e z (sorted-last (take (steps t) (ranked t)) z (subst (Sorted before) comes (take-sorted before (suc (steps t)) (ranked t) (ranked-sorted t))) e k))
+      go (inl k) = low (before-out e z (sorted-append before (take (steps t) (ranked t)) [] z (subst (Sorted before) comes sorted) e k))
       go (inr k) = omega (arith, ap (λ (u : Entry). u .cost) (singleton-out k), least-cost)
 
   -- for the sheet's size: E + 1 entries
   pub length-honest : length (honest t (leastMetric t)) ≡ suc (steps t)
   length-honest =
-      same-length (honest t (leastMetric t)) (take (suc (steps t)) (ranked t)) (lower-unique (honest t (leastMetric t)) (honest-sorted t (leastMetric t)))
-      (sorted-unique before before-order (take (suc (steps t)) (ranked t)) (take-sorted before (suc (steps t)) (ranked t) (ranked-sorted t)))
-      honest-front front-honest
+      same-length (honest t (leastMetric t)) (take (suc (steps t)) (ranked t))
+      (irreflexive-unique lower (λ e. earlier-order .irrefl (e .node)) (honest t (leastMetric t)) (honest-sorted t (leastMetric t)))
+      (front-unique t (suc (steps t))) honest-front front-honest
       ∙ omega (arith, length-take (suc (steps t)) (ranked t), steps-few t (terminal-reached law))

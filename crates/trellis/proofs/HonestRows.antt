@@ -3,27 +3,24 @@
 use mathlib.Core.Path.{_≡_, sym, ap, _∙_}
 use mathlib.Core.Logic.{_⊎_, inl, inr}
 use mathlib.Core.List.{List, [], _∷_, _++_, map}
-use mathlib.Core.Bool.{true}
+use mathlib.Core.Bool.{true, true≢false}
 use Prim.Native.Nat.{ℕ, suc, _≤_, _<_}
 use native.Mathlib.Decide.{ℕ-discrete}
 use native.Mathlib.Omega.{arith}
-use lib.ListN.{length, take, length-take, length-map, length-set}
+use lib.ListN.{length, take, length-take, length-map}
 use Rattle.lists.specs.Lists.{_∈_}
 use Rattle.lists.proofs.Membership.{here, append-left, append-right, append-out, singleton-out, member-cast, map-in}
 use Rattle.lists.proofs.Unique.{length-within}
-use Rattle.lists.proofs.Sorted.{take-sorted, sorted-unique}
 use Rattle.trellis.specs.Trellis.{Trellis, terminal}
-use Rattle.trellis.specs.Verdict.{Entry, entry, before, ranked, steps, met, leastMetric}
+use Rattle.trellis.specs.Verdict.{Entry, entry, ranked, steps, met, leastMetric}
 use Rattle.trellis.specs.Sheet.{honest}
 use Rattle.trellis.specs.Lawful.{Lawful}
 use Rattle.trellis.specs.Search.{Row, noRow, rowAt, entryAt, nodeAt, costAt, firstOpen, shut, closed, found, Ended, searched}
-use Rattle.trellis.proofs.Order.{before-order}
-use Rattle.trellis.proofs.Ranked.{ranked-sorted}
 use Rattle.trellis.proofs.Messages.{terminal-reached}
-use Rattle.trellis.proofs.MetNodes.{met-mono, met-some, steps-few}
+use Rattle.trellis.proofs.MetNodes.{front-unique, ranked-met, steps-few}
 use Rattle.trellis.proofs.Places.{place-in}
 use Rattle.trellis.proofs.HonestRanked.{honest-front, front-honest, length-honest}
-use Rattle.trellis.proofs.Rows.{true-false, Changed, set-changed, First, firstOpen-unique}
+use Rattle.trellis.proofs.Rows.{Changed, set-changed, First, firstOpen-unique}
 use Rattle.trellis.proofs.Table.{Stored}
 use Rattle.trellis.proofs.Between.{Between, between-next}
 use Rattle.trellis.proofs.Found.{found-right}
@@ -77,18 +74,24 @@ module _ {t : Trellis} (law : Lawful t) {cap room j i : ℕ} {rows : List Row} (
 
       listed′ : (k : ℕ) → k < length after → rowAt after k .closed ≡ true → Dec (k ≡ i) → entryAt rows k ∈ (take j (ranked t) ++ (entryAt rows i ∷ []))
       listed′ k u c (yes q) = append-right (take j (ranked t)) (here (ap (entryAt rows) q))
-      listed′ k u c (no d) = append-left (entryAt rows i ∷ []) (M .table .shut k (C .older k u d) (ap (λ (r : Row). r .closed) (sym (C .others k u d)) ∙ c))
+      listed′ k u c (no d) =
+          append-left (entryAt rows i ∷ []) (M .table .shut k (C .older k u d) (ap (λ (r : Row). r .closed) (sym (C .others k u d)) ∙ c))
 
       stored′ : (x : Entry) → (x ∈ take j (ranked t)) ⊎ (x ∈ (entryAt rows i ∷ [])) → Stored after x
       stored′ x (inl m) = go (M .table .stored x m)
         where
           apart : (s : Stored rows x) → s .row ≡ i → ⊥
-          apart s q = true-false (sym (s .shut) ∙ ap (λ (k : ℕ). rowAt rows k .closed) q ∙ f .live h)
+          apart s q = true≢false (sym (s .shut) ∙ ap (λ (k : ℕ). rowAt rows k .closed) q ∙ f .live h)
 
           go : Stored rows x → Stored after x
           go s =
               let u : s .row < length after = omega (arith, s .within, C .longer) in
-              record { row = s .row; within = u; shut = ap (λ (r : Row). r .closed) (C .others (s .row) u (apart s)) ∙ s .shut; equal = entry-same (s .row) u ∙ s .equal }
+              record {
+                row = s .row;
+                within = u;
+                shut = ap (λ (r : Row). r .closed) (C .others (s .row) u (apart s)) ∙ s .shut;
+                equal = entry-same (s .row) u ∙ s .equal;
+              }
       stored′ x (inr m) = record {
         row = i;
         within = C .within;
@@ -102,8 +105,8 @@ pub record Left (t : Trellis) (rows : List Row) (i : ℕ) : Type 0 where
   pub first : i ≡ firstOpen rows
   pub holds : Holds (honest t (leastMetric t)) (closed rows i)
 
-pub searched-left : {t : Trellis} → Lawful t → (cap room allowance : ℕ) → 1 ≤ cap → (metric done count i : ℕ) → searched t cap room allowance .outcome ≡ found metric done count i
-    → Left t (searched t cap room allowance .rows) i
+pub searched-left : {t : Trellis} → Lawful t → (cap room allowance : ℕ) → 1 ≤ cap → (metric done count i : ℕ)
+    → searched t cap room allowance .outcome ≡ found metric done count i → Left t (searched t cap room allowance .rows) i
 searched-left {t} law cap room allowance one metric done count i = go (searched-ending law cap room allowance one)
   where
     go : {e : Ended} → Ending t cap room allowance e → e .outcome ≡ found metric done count i → Left t (e .rows) i
@@ -124,17 +127,12 @@ length-holds {t} law {rows} H =
     let front : List Entry = take (suc (steps t)) (ranked t) in
     let entries : List Entry = map (λ r. r .entry) rows in
     let n : length front ≤ length entries =
-    length-within front entries (sorted-unique before before-order front (take-sorted before (suc (steps t)) (ranked t) (ranked-sorted t)))
-    (λ e k. let s = H .stored e (front-honest law e k) in member-cast (sym (s .equal)) (map-in (λ (r : Row). r .entry) (place-in noRow rows (s .row) (s .within)))) in
+    length-within front entries (front-unique t (suc (steps t))) (λ e k.
+    let s = H .stored e (front-honest law e k) in
+    member-cast (sym (s .equal)) (map-in (λ (r : Row). r .entry) (place-in noRow rows (s .row) (s .within)))) in
     omega (arith, length-take (suc (steps t)) (ranked t), steps-few t (terminal-reached law), length-map rows (λ (r : Row). r .entry))
 
 -- so where a decode answers, the honest sheet has no more entries than there is room
-pub length-answered : {t : Trellis} → Lawful t → (room allowance : ℕ) → steps t ≤ allowance → met t (steps t) ≤ room → length (honest t (leastMetric t)) ≤ room
-length-answered {t} law room allowance h k = go (searched-ending law 1 room allowance (omega arith))
-  where
-    go : {e : Ended} → Ending t 1 room allowance e → length (honest t (leastMetric t)) ≤ room
-    go (no-room z e) = absurd (omega (arith, met-some t (steps t)))
-    go (at-terminal j i rows M f l q b e) =
-        omega (arith, length-honest law, length-holds law (found-holds law M f l q), length-set rows i (shut (rowAt rows i)), M .held)
-    go (out-of-room j rows l b p q e) = absurd (omega (arith, met-mono t (suc j) (steps t) l))
-    go (out-of-steps rows l p e) = absurd (omega arith)
+pub length-answered : {t : Trellis} → Lawful t → (room allowance : ℕ) → steps t ≤ allowance → met t (steps t) ≤ room
+    → length (honest t (leastMetric t)) ≤ room
+length-answered {t} law room allowance h k = omega (arith, length-honest law, ranked-met t (steps t) (steps-few t (terminal-reached law)))

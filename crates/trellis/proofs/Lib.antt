@@ -15,6 +15,7 @@ pub mod Places
 pub mod Rows
 pub mod Step
 pub mod MetNodes
+pub mod LastFit
 pub mod Verdicts
 pub mod Sharing
 pub mod Entered

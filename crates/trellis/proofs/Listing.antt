@@ -26,6 +26,7 @@ use Rattle.trellis.proofs.HonestRows.{Holds}
 abbrev pub noEntry : Entry
 noEntry = entry 0 0 0
 
+-- entry d of a sheet
 abbrev pub entryOf : List Entry → ℕ → Entry
 entryOf sheet d = getD sheet d noEntry
 
@@ -47,6 +48,7 @@ pub record Listing (sheet : List Entry) (rows : List Row) (d k : ℕ) : Type 0 w
   pub equal : d < length sheet → entryAt rows k ≡ entryOf sheet d
 
 module _ {sheet : List Entry} {rows : List Row} (H : Holds sheet rows) (sorted : Sorted lower sheet) where
+  -- so do those of this sheet
   rises : (i k : ℕ) → i < k → k < length sheet → T (lower (entryOf sheet i) (entryOf sheet k))
   rises i k h l = sheet-rises sheet sorted i k h l
 
@@ -76,7 +78,10 @@ module _ {sheet : List Entry} {rows : List Row} (H : Holds sheet rows) (sorted :
         where
           at : (n : ℕ) → n < length sheet → entryOf sheet n ≡ entry 0 0 0 → entryOf sheet 0 ≡ entry 0 0 0
           at zero v q = q
-          at (suc n) v q = absurd (never (earlier-out (entryOf sheet 0 .node) origin (subst (λ (x : Entry). T (lower (entryOf sheet 0) x)) q (rises 0 (suc n) (omega arith) v))))
+          at (suc n) v q =
+              let h : T (earlier (entryOf sheet 0 .node) origin) =
+              subst (λ (x : Entry). T (lower (entryOf sheet 0) x)) q (rises 0 (suc n) (omega arith) v) in
+              absurd (never (earlier-out (entryOf sheet 0 .node) origin h))
 
   -- THE NEXT ENTRY has the row that nextClosed finds
   pub listing-next : {d k : ℕ} → Listing sheet rows d k → d < length sheet → Listing sheet rows (suc d) (nextClosed (nodeAt rows k) rows)
@@ -115,8 +120,10 @@ module _ {sheet : List Entry} {rows : List Row} (H : Holds sheet rows) (sorted :
                   above = place-after (p .index) d (p .within) u (earlier-cast (sym own) (ap (λ (y : Entry). y .node) (p .equal)) (a .later))
 
                   pick : (suc d < p .index) ⊎ ((suc d ≡ p .index) ⊎ (p .index < suc d)) → entryAt rows (nextClosed x rows) ≡ entryOf sheet (suc d)
-                  pick (inl l) = absurd (F .least (due v .row) (comes v)
-                      (earlier-cast (ap (λ (y : Entry). y .node) (due v .equal)) (ap (λ (y : Entry). y .node) (sym (p .equal))) (rises (suc d) (p .index) l (p .within))))
+                  pick (inl l) =
+                      let own : nodeAt rows (due v .row) ≡ entryOf sheet (suc d) .node = ap (λ (y : Entry). y .node) (due v .equal) in
+                      let other : nodeAt rows (nextClosed x rows) ≡ entryOf sheet (p .index) .node = ap (λ (y : Entry). y .node) (sym (p .equal)) in
+                      absurd (F .least (due v .row) (comes v) (earlier-cast own other (rises (suc d) (p .index) l (p .within))))
                   pick (inr (inl q)) = sym (p .equal) ∙ ap (entryOf sheet) (sym q)
                   pick (inr (inr l)) = absurd (omega (arith, above))
 
@@ -128,5 +135,6 @@ module _ (t : Trellis) (m : ℕ) {rows : List Row} (H : Holds (honest t m) rows)
   honest-start = listing-start H (honest-sorted t m) (honest-in t m (record { priced = cost-origin t; within = omega arith }))
 
   -- and each next one has the row that nextClosed finds
-  pub honest-next : {d k : ℕ} → Listing (honest t m) rows d k → d < length (honest t m) → Listing (honest t m) rows (suc d) (nextClosed (nodeAt rows k) rows)
+  pub honest-next : {d k : ℕ} → Listing (honest t m) rows d k → d < length (honest t m)
+      → Listing (honest t m) rows (suc d) (nextClosed (nodeAt rows k) rows)
   honest-next L u = listing-next H (honest-sorted t m) L u

@@ -9,14 +9,15 @@ use lib.Dec.{eqb, eqb→eq, eqb-refl}
 use lib.ListN.{length, drop, replicate, length-append, length-replicate, length-reverse, length-drop, length-map}
 use lib.Seq.{drop-at}
 use Rattle.lists.specs.Lists.{_∈_, least}
-use Rattle.lists.proofs.Membership.{here, further, nil-out, singleton-out, member-cast, Every, Within, every-cons, member-length, keep-in, keep-out, map-in, map-out, reverse-out}
-use Rattle.lists.proofs.Unique.{Unique, keep-unique, map-unique, same-length}
+use Rattle.lists.proofs.Membership.{here, further, nil-out, singleton-out, member-cast, Every, every-cons, member-length}
+use Rattle.lists.proofs.Membership.{keep-in, keep-out, map-in, map-out, reverse-out}
+use Rattle.lists.proofs.Unique.{Unique, keep-unique, map-unique}
 use Rattle.lists.proofs.Least.{least-le, least-of}
 use Rattle.lists.proofs.Words.{grown-in, grown-out, grown-unique}
-use Rattle.trellis.specs.Trellis.{Trellis, Path, top, allowed, terminal, metric, pathsTo}
+use Rattle.trellis.specs.Trellis.{Trellis, Path, top, allowed, terminal, metric}
 use Rattle.trellis.specs.Verdict.{words, messages, pathOf, leastMetric, leastMessages, steps, answered, tied, decided}
 use Rattle.trellis.specs.Lawful.{Allowed, start, step, messageOf, Lawful}
-use Rattle.trellis.proofs.Paths.{Ends, Reached, allowed-message, allowed-tail, allowed-top, pathsTo-in, pathsTo-out, pathsTo-unique}
+use Rattle.trellis.proofs.Paths.{Ends, Reached, allowed-message, allowed-tail, allowed-top}
 use Rattle.trellis.proofs.Cost.{Cost, cost-unique, LeastPaths, leastPaths-length}
 
 -- ---- messages
@@ -113,7 +114,8 @@ module _ (t : Trellis) where
   -- one to one: back from the path comes the message
   pub messageOf-pathOf : (w : List ℕ) → messageOf t (pathOf t w) ≡ w
   unfolding pathOf
-  messageOf-pathOf w = ap reverse (drop-at (replicate (t .tail) 0) (reverse w) (t .tail) (length-replicate (t .tail) 0)) ∙ reverse-reverse w
+  messageOf-pathOf w =
+      ap reverse (drop-at (replicate (t .tail) 0) (reverse w) (t .tail) (length-replicate (t .tail) 0)) ∙ reverse-reverse w
 
   -- so no two messages share a path
   pub pathOf-injective : (v w : List ℕ) → pathOf t v ≡ pathOf t w → v ≡ w
@@ -122,7 +124,8 @@ module _ (t : Trellis) where
   -- onto: every allowed path to the top is its message's path
   pub pathOf-messageOf : {p : Path} → Allowed t p → length p ≡ top t → pathOf t (messageOf t p) ≡ p
   unfolding pathOf
-  pathOf-messageOf {p} al e = ap (λ (q : Path). replicate (t .tail) 0 ++ q) (reverse-reverse (drop (t .tail) p)) ∙ sym (tail-zeros t (t .tail) p e al .zeros)
+  pathOf-messageOf {p} al e =
+      ap (λ (q : Path). replicate (t .tail) 0 ++ q) (reverse-reverse (drop (t .tail) p)) ∙ sym (tail-zeros t (t .tail) p e al .zeros)
 
   -- and its message is one of the messages
   pub messageOf-in : {p : Path} → Allowed t p → length p ≡ top t → messageOf t p ∈ messages t
@@ -176,23 +179,6 @@ module _ {t : Trellis} (law : Lawful t) where
       let n = pathOf-length t m in
       record { allowed = al; level = n; state = law .closes (pathOf t w) al n }
 
-  -- so the messages' paths are the paths to the terminal
-  pub messages-paths : Within (map (pathOf t) (messages t)) (pathsTo t (terminal t))
-  messages-paths p m = let r = map-out (pathOf t) (messages t) m in member-cast (r .equal) (pathsTo-in (pathOf-ends (r .member)))
-
-  pub paths-messages : Within (pathsTo t (terminal t)) (map (pathOf t) (messages t))
-  paths-messages p m =
-      let h = pathsTo-out t (terminal t) m in
-      member-cast (sym (pathOf-messageOf t (h .allowed) (h .level))) (map-in (pathOf t) (messageOf-in t (h .allowed) (h .level)))
-
-  -- and as many
-  pub length-messages : length (messages t) ≡ length (pathsTo t (terminal t))
-  length-messages =
-      sym (length-map (messages t) (pathOf t))
-      ∙ same-length (map (pathOf t) (messages t)) (pathsTo t (terminal t))
-      (map-unique (pathOf t) (messages t) (λ v w m n e. pathOf-injective t v w e) (messages-unique t)) (pathsTo-unique t (terminal t))
-      messages-paths paths-messages
-
   -- there is a message: zeros
   pub message-some : replicate (t .span) 0 ∈ messages t
   unfolding messages
@@ -226,7 +212,9 @@ module _ {t : Trellis} (law : Lawful t) where
   pub leastMessages-paths : LeastPaths t (terminal t) (leastMetric t) (map (pathOf t) (leastMessages t))
   leastMessages-paths = record {
     once = map-unique (pathOf t) (leastMessages t) (λ v w m n e. pathOf-injective t v w e) (leastMessages-unique t);
-    there = (λ p m. let r = map-out (pathOf t) (leastMessages t) m in subst (Ends t (terminal t)) (sym (r .equal)) (pathOf-ends (leastMessages-out t (r .member) .member)));
+    there = (λ p m.
+        let r = map-out (pathOf t) (leastMessages t) m in
+        subst (Ends t (terminal t)) (sym (r .equal)) (pathOf-ends (leastMessages-out t (r .member) .member)));
     paid = (λ p m. let r = map-out (pathOf t) (leastMessages t) m in ap (metric t) (r .equal) ∙ leastMessages-out t (r .member) .paid);
     full = (λ p h e.
         let q : pathOf t (messageOf t p) ≡ p = pathOf-messageOf t (h .allowed) (h .level) in
@@ -250,7 +238,9 @@ module _ {t : Trellis} (law : Lawful t) where
 
     -- where one path alone is least, its message alone is
     pub leastMessages-one : {p : Path} → LeastPaths t (terminal t) c (p ∷ []) → leastMessages t ≡ messageOf t p ∷ []
-    leastMessages-one {p} r = go (leastMessages t) (leastMessages-length r) (λ w m. r .full (pathOf t w) (own-paths .there (pathOf t w) (map-in (pathOf t) m)) (own-paths .paid (pathOf t w) (map-in (pathOf t) m)))
+    leastMessages-one {p} r =
+        go (leastMessages t) (leastMessages-length r)
+        (λ w m. r .full (pathOf t w) (own-paths .there (pathOf t w) (map-in (pathOf t) m)) (own-paths .paid (pathOf t w) (map-in (pathOf t) m)))
       where
         go : (l : List (List ℕ)) → length l ≡ 1 → ((w : List ℕ) → w ∈ l → pathOf t w ∈ (p ∷ [])) → l ≡ messageOf t p ∷ []
         go [] e f = absurd (omega arith)

@@ -1,28 +1,27 @@
--- Law 4: D(j) counts the nodes met after j steps, however they are kept, and does not fall; the terminal comes after E steps; the
--- last j that fits the room is the greatest. Assumes nothing.
+-- Law 4: D(j) counts the nodes met after j steps, however they are kept; it does not fall, and is above j; the terminal comes after
+-- E steps. The greatest j that fits a room is in LastFit. Assumes nothing.
 use mathlib.Core.Path.{_≡_, refl, sym, ap, _∙_, subst}
 use mathlib.Core.Logic.{_⊎_, inl, inr}
-use mathlib.Core.List.{List, [], _∷_, _++_, flatMap, append-assoc}
-use mathlib.Core.Bool.{cond}
+use mathlib.Core.List.{List, [], _∷_, _++_, map, flatMap, append-assoc}
 use Prim.Native.Nat.{ℕ, zero, suc, _≤_, _<_}
-use native.Mathlib.Decide.{decLe}
 use native.Mathlib.Omega.{arith}
-use lib.Dec.{T, leb}
-use borrow.Author.Tests.{le-leb, lt-leb}
-use lib.ListN.{length, take, drop, length-take, length-append, take-append-drop}
+use lib.Dec.{T}
+use lib.ListN.{length, take, drop, length-map, length-take, length-append, take-append-drop}
 use lib.Seq.{take-suc}
-use Rattle.lists.specs.Lists.{_∈_, keep, distinct, below}
-use Rattle.lists.proofs.Membership.{here, further, member-cast, append-right, Every, Within, eq-or-lt, take-out, take-more, keep-in, map-in, map-out, flatMap-in, flatMap-out, FlatMapped, below-in, below-out}
-use Rattle.lists.proofs.Unique.{Unique, length-within, same-length}
+use Rattle.lists.specs.Lists.{_∈_, keep, distinct}
+use Rattle.lists.proofs.Membership.{here, further, member-cast, append-right, Every, Within, take-out, take-more, keep-in}
+use Rattle.lists.proofs.Membership.{Mapped, map-out, FlatMapped, flatMap-in, flatMap-out}
+use Rattle.lists.proofs.Unique.{Unique, map-unique, length-within, same-length}
 use Rattle.lists.proofs.Distinct.{distinct-in, distinct-out, distinct-unique}
-use Rattle.lists.proofs.Sorted.{Sorted, take-sorted, take-or-after, sorted-unique, keep-before}
+use Rattle.lists.proofs.Sorted.{Sorted, take-sorted, take-or-after, take-before, sorted-unique, keep-before}
 use Rattle.trellis.specs.Trellis.{Trellis, Node, same, origin, terminal, allowed, successors, cost}
-use Rattle.trellis.specs.Verdict.{Entry, priced, before, ranked, steps, met, lastFit}
+use Rattle.trellis.specs.Verdict.{Entry, priced, before, ranked, steps, met}
 use Rattle.trellis.specs.Sheet.{onto}
 use Rattle.trellis.proofs.Paths.{Reached, same-equality}
-use Rattle.trellis.proofs.Cost.{cost-is, cost-computed}
+use Rattle.trellis.proofs.Cost.{Cost, cost-is, cost-computed, cost-unique}
+use Rattle.trellis.proofs.Recurrence.{successors-in, successors-out, reached-origin}
 use Rattle.trellis.proofs.Order.{before-order, entry-path}
-use Rattle.trellis.proofs.Ranked.{ranked-in, ranked-out, ranked-sorted}
+use Rattle.trellis.proofs.Ranked.{Priced, ranked-in, ranked-out, ranked-sorted, foregoer}
 use Rattle.trellis.proofs.Places.{place-out}
 use Rattle.trellis.proofs.Step.{Closed}
 
@@ -42,20 +41,17 @@ pub record Met (t : Trellis) (j : ℕ) (x : Node) : Type 0 where
 
 -- to go from what was met to the list, and back
 pub met-in : (t : Trellis) (j : ℕ) (x : Node) → Met t j x → x ∈ metNodes t j
-unfolding successors
 met-in t j x m =
-    further (flatMap-in (λ (e : Entry). successors t (e .node)) (m .member)
-    (member-cast (m .equal) (map-in (λ (b : ℕ). onto t (m .source) b .node) (below-in (allowed t (m .source .node .level)) (m .fits)))))
+    further (flatMap-in (λ (e : Entry). successors t (e .node)) (m .member) (successors-in (record { fits = m .fits; leads = m .equal })))
 
 pub met-out : (t : Trellis) (j : ℕ) (x : Node) → x ∈ metNodes t j → (x ≡ origin) ⊎ Met t j x
-unfolding successors
 met-out t j x (here e) = inl e
 met-out t j x (further m) = inr (go (flatMap-out (λ (e : Entry). successors t (e .node)) (take j (ranked t)) m))
   where
     go : FlatMapped (λ (e : Entry). successors t (e .node)) (take j (ranked t)) x → Met t j x
     go f =
-        let s = map-out (λ (b : ℕ). onto t (f .source) b .node) (below (allowed t (f .source .node .level))) (f .inner) in
-        record { source = f .source; input = s .source; member = f .member; fits = below-out (allowed t (f .source .node .level)) (s .member); equal = s .equal }
+        let s = successors-out t (f .source .node) (f .inner) in
+        record { source = f .source; input = s .input; member = f .member; fits = s .enters .fits; equal = s .enters .leads }
 
 module _ (t : Trellis) (j : ℕ) (l : List Node) (u : Unique l) (w : Within l (metNodes t j)) where
   -- some of the nodes met: no more than D(j)
@@ -79,7 +75,9 @@ met-mono t j k h =
   where
     go : (x : Node) → (x ≡ origin) ⊎ Met t j x → x ∈ metNodes t k
     go x (inl e) = here e
-    go x (inr m) = met-in t k x (record { source = m .source; input = m .input; member = take-more j k (ranked t) h (m .source) (m .member); fits = m .fits; equal = m .equal })
+    go x (inr m) =
+        let later : m .source ∈ take k (ranked t) = take-more j k (ranked t) h (m .source) (m .member) in
+        met-in t k x (record { source = m .source; input = m .input; member = later; fits = m .fits; equal = m .equal })
 
 -- the origin is met at once
 pub met-some : (t : Trellis) (j : ℕ) → 0 < met t j
@@ -89,6 +87,10 @@ met-some t j = length-some-met t j (origin ∷ []) ((λ m. elim m [ ]), tt) (λ 
     go x (here e) = here e
 
 -- ---- E
+
+-- none of the first j ranked nodes comes twice, so they can be counted
+pub front-unique : (t : Trellis) (j : ℕ) → Unique (take j (ranked t))
+front-unique t j = sorted-unique before before-order (take j (ranked t)) (take-sorted before j (ranked t) (ranked-sorted t))
 
 -- the (j + 1)-th ranked node stands in the list
 pub next-inside : (t : Trellis) (j : ℕ) (z : Entry) → take (suc j) (ranked t) ≡ take j (ranked t) ++ (z ∷ []) → j < length (ranked t)
@@ -119,11 +121,11 @@ pub steps-past : (t : Trellis) (j : ℕ) → Reached t (terminal t) → j ≤ le
 unfolding steps
 steps-past t j h k away = go (take-or-after before j (ranked t) (ranked-sorted t) (priced t (terminal t)) (ranked-in (cost-is (h .there))))
   where
-    go : Closed t j (terminal t) ⊎ Every (λ x. T (before x (priced t (terminal t)))) (take j (ranked t)) → j ≤ length (keep (λ x. before x (priced t (terminal t))) (ranked t))
+    go : Closed t j (terminal t) ⊎ Every (λ x. T (before x (priced t (terminal t)))) (take j (ranked t))
+        → j ≤ length (keep (λ x. before x (priced t (terminal t))) (ranked t))
     go (inl m) = absurd (away m)
     go (inr f) =
-        let n = length-within (take j (ranked t)) (keep (λ x. before x (priced t (terminal t))) (ranked t))
-        (sorted-unique before before-order (take j (ranked t)) (take-sorted before j (ranked t) (ranked-sorted t)))
+        let n = length-within (take j (ranked t)) (keep (λ x. before x (priced t (terminal t))) (ranked t)) (front-unique t j)
         (λ x m. keep-in (λ x. before x (priced t (terminal t))) (take-out j (ranked t) x m) (f x m)) in
         omega (arith, length-take j (ranked t))
 
@@ -140,41 +142,45 @@ terminal-comes t h =
 pub steps-few : (t : Trellis) → Reached t (terminal t) → steps t < length (ranked t)
 steps-few t h = next-inside t (steps t) (priced t (terminal t)) (terminal-comes t h)
 
--- ---- the last j that fits the room
+-- ---- D is above j
 
--- it is found where D passes the room
-pub lastFit-is : (t : Trellis) (room j k : ℕ) → j ≤ k → met t j ≤ room → room < met t (suc j) → lastFit t room k ≡ j
-unfolding lastFit
-lastFit-is t room j zero h p q = omega arith
-lastFit-is t room j (suc k) h p q = go (eq-or-lt j (suc k) (omega arith)) (λ l. lastFit-is t room j k l p q)
-  where
-    go : (j ≡ suc k) ⊎ (j < suc k) → (j ≤ k → lastFit t room k ≡ j) → cond (leb (met t (suc k)) room) (suc k) (lastFit t room k) ≡ j
-    go (inl e) ih = rw (le-leb (met t (suc k)) room (rw (sym e) p)) (sym e)
-    go (inr l) ih = rw (lt-leb (met t (suc k)) room (omega (arith, met-mono t (suc j) (suc k) (omega arith)))) (ih (omega arith))
+module _ (t : Trellis) (j : ℕ) where
+  -- the first j + 1 nodes in order
+  abbrev firsts : List Entry
+  firsts = take (suc j) (ranked t)
 
--- and is 0 where nothing fits
-pub lastFit-none : (t : Trellis) (room k : ℕ) → room < met t 0 → lastFit t room k ≡ 0
-unfolding lastFit
-lastFit-none t room zero h = refl
-lastFit-none t room (suc k) h = rw (lt-leb (met t (suc k)) room (omega (arith, met-mono t 0 (suc k) (omega arith)))) (lastFit-none t room k h)
+  known : (e : Entry) → e ∈ firsts → Priced t e
+  known e m = ranked-out t (take-out (suc j) (ranked t) e m)
 
--- it is the greatest: no j up to k that fits is above it
-pub lastFit-greatest : (t : Trellis) (room j k : ℕ) → j ≤ k → met t j ≤ room → j ≤ lastFit t room k
-unfolding lastFit
-lastFit-greatest t room j zero h p = h
-lastFit-greatest t room j (suc k) h p = go (decLe (met t (suc k)) room) (eq-or-lt j (suc k) (omega arith)) (λ l. lastFit-greatest t room j k l p)
-  where
-    go : Dec (met t (suc k) ≤ room) → (j ≡ suc k) ⊎ (j < suc k) → (j ≤ k → j ≤ lastFit t room k) → j ≤ cond (leb (met t (suc k)) room) (suc k) (lastFit t room k)
-    go (yes u) e ih = rw (le-leb (met t (suc k)) room u) h
-    go (no u) (inl e) ih = absurd (u (rw (sym e) p))
-    go (no u) (inr l) ih = rw (lt-leb (met t (suc k)) room (omega arith)) (ih (omega arith))
+  -- no node twice, as its cost is one
+  firsts-unique : Unique (map (λ e. e .node) firsts)
+  firsts-unique =
+      map-unique (λ e. e .node) firsts
+      (λ a b m k same. entry-path (cost-unique (known a m) (subst (λ (x : Node). Cost t x (b .cost)) (sym same) (known b k))) same)
+      (front-unique t (suc j))
 
--- and it fits, where any j does
-pub lastFit-fits : (t : Trellis) (room k : ℕ) → met t 0 ≤ room → met t (lastFit t room k) ≤ room
-unfolding lastFit
-lastFit-fits t room zero h = h
-lastFit-fits t room (suc k) h = go (decLe (met t (suc k)) room) (lastFit-fits t room k h)
-  where
-    go : Dec (met t (suc k) ≤ room) → met t (lastFit t room k) ≤ room → met t (cond (leb (met t (suc k)) room) (suc k) (lastFit t room k)) ≤ room
-    go (yes u) ih = rw (le-leb (met t (suc k)) room u) u
-    go (no u) ih = rw (lt-leb (met t (suc k)) room (omega arith)) ih
+  -- each is the origin or entered from one of the first j
+  firsts-met : (e : Entry) → e ∈ firsts → e .node ∈ metNodes t j
+  firsts-met e m = go (e .node .level) refl
+    where
+      go : (n : ℕ) → e .node .level ≡ n → e .node ∈ metNodes t j
+      go zero low = here (reached-origin low (record { path = known e m .path; there = known e m .there }))
+      go (suc n) up =
+          let r = foregoer (omega arith) (known e m) in
+          met-in t j (e .node)
+          (record {
+            source = r .from;
+            input = r .input;
+            member = take-before before before-order j (ranked t) (ranked-sorted t) m (r .member) (r .earlier);
+            fits = r .fits;
+            equal = ap (λ (x : Entry). x .node) (r .gives);
+          })
+
+  -- D(j) is at least j + 1: so E + 1 nodes have no more rows or entries than the room
+  pub ranked-met : j < length (ranked t) → suc j ≤ met t j
+  ranked-met h =
+      let n = length-some-met t j (map (λ e. e .node) firsts) firsts-unique (λ x w. go x (map-out (λ e. e .node) firsts w)) in
+      omega (arith, length-map firsts (λ (e : Entry). e .node), length-take (suc j) (ranked t))
+    where
+      go : (x : Node) → Mapped (λ (e : Entry). e .node) firsts x → x ∈ metNodes t j
+      go x r = member-cast (r .equal) (firsts-met (r .source) (r .member))

@@ -30,7 +30,12 @@ pub record Following (x : Node) (rows : List Row) (k : ℕ) : Type 0 where
 -- nextClosed finds it
 pub nextClosed-is : (x : Node) (rows : List Row) → Following x rows (nextClosed x rows)
 unfolding nextClosed
-nextClosed-is x [] = record { within = omega arith; here = (λ h. absurd (omega arith)); some = (λ i a. absurd (omega (arith, a .within))); least = (λ i a. absurd (omega (arith, a .within))) }
+nextClosed-is x [] = record {
+  within = omega arith;
+  here = (λ h. absurd (omega arith));
+  some = (λ i a. absurd (omega (arith, a .within)));
+  least = (λ i a. absurd (omega (arith, a .within)));
+}
 nextClosed-is x (r ∷ rows) =
     go (test (r .closed && earlier x y)) (test (ltb k (length rows) && earlier (nodeAt rows k) y)) (nextClosed-is x rows)
   where
@@ -64,9 +69,12 @@ nextClosed-is x (r ∷ rows) =
       where
         least′ : (i : ℕ) → After x (r ∷ rows) i → T (earlier (nodeAt (r ∷ rows) i) y) → ⊥
         least′ zero a b = earlier-order .irrefl y b
-        least′ (suc i) a b = d (and-in (ltb k (length rows)) (earlier (nodeAt rows k) y) (lt→ltb k (length rows) (f .some i (back i a))) (pick (earlier-order .total (nodeAt rows k) (nodeAt rows i))))
+        least′ (suc i) a b =
+            let l : T (ltb k (length rows)) = lt→ltb k (length rows) (f .some i (back i a)) in
+            d (and-in (ltb k (length rows)) (earlier (nodeAt rows k) y) l (pick (earlier-order .total (nodeAt rows k) (nodeAt rows i))))
           where
-            pick : T (earlier (nodeAt rows k) (nodeAt rows i)) ⊎ ((nodeAt rows k ≡ nodeAt rows i) ⊎ T (earlier (nodeAt rows i) (nodeAt rows k))) → T (earlier (nodeAt rows k) y)
+            pick : T (earlier (nodeAt rows k) (nodeAt rows i)) ⊎ ((nodeAt rows k ≡ nodeAt rows i) ⊎ T (earlier (nodeAt rows i) (nodeAt rows k)))
+                → T (earlier (nodeAt rows k) y)
             pick (inl q) = earlier-order .trans (nodeAt rows k) (nodeAt rows i) y q b
             pick (inr (inl q)) = rw q b
             pick (inr (inr q)) = absurd (f .least i (back i a) q)

@@ -8,7 +8,7 @@ use native.Mathlib.Omega.{arith}
 use lib.Dec.{T, ltb, ltb→lt, lt→ltb}
 use Rattle.lists.proofs.Sorted.{Order}
 use Rattle.lists.proofs.Lexicographic.{compared, lexicographic-lt, lexicographic-eq, lexicographic-out, lexicographic-order}
-use Rattle.trellis.specs.Trellis.{Trellis, Node}
+use Rattle.trellis.specs.Trellis.{Trellis, Path, Node, metric, endNode}
 use Rattle.trellis.specs.Verdict.{Entry, earlier, before}
 use Rattle.trellis.specs.Sheet.{onto}
 use Rattle.trellis.proofs.Paths.{node-path}
@@ -90,6 +90,10 @@ before-order = lexicographic-order costOf byNode
     go x y e (inl h) = inl h
     go x y e (inr (inl q)) = inr (inl (entry-path e q))
     go x y e (inr (inr h)) = inr (inr h)
+
+-- where a path ends, with its metric
+abbrev pub mark : Trellis → Path → Entry
+mark t p = record { cost = metric t p; node = endNode t p }
 
 -- metrics do not fall and the level rises, so no later step undercuts an expanded node
 pub onto-later : (t : Trellis) (e : Entry) (b : ℕ) → T (before e (onto t e b))

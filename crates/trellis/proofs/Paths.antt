@@ -71,7 +71,11 @@ paths-out t zero {p} m = let e : p ≡ [] = singleton-out m in record { allowed 
 paths-out t (suc k) {p} m =
     let r = grown-out (allowed t k) (paths t k) m in
     let h : Ends t (node k (ends t (r .rest))) (r .rest) = paths-out t k (r .member) in
-    record { allowed = subst (Allowed t) (sym (r .equal)) (step (rw (h .level) (r .fits)) (h .allowed)); level = ap length (r .equal) ∙ ap suc (h .level); state = refl }
+    record {
+      allowed = subst (Allowed t) (sym (r .equal)) (step (rw (h .level) (r .fits)) (h .allowed));
+      level = ap length (r .equal) ∙ ap suc (h .level);
+      state = refl;
+    }
 
 -- no path is listed twice
 pub paths-unique : (t : Trellis) (k : ℕ) → Unique (paths t k)
@@ -104,7 +108,10 @@ node-path p q = λ i. node (p i) (q i)
 
 -- the test of nodes is equality
 pub same-equality : Equality same
-same-equality = record { sound = (λ x y h. sound x y h); complete = (λ x. and-in (eqb (x .level) (x .level)) (eqb (x .state) (x .state)) (eqb-refl (x .level)) (eqb-refl (x .state))) }
+same-equality = record {
+  sound = (λ x y h. sound x y h);
+  complete = (λ x. and-in (eqb (x .level) (x .level)) (eqb (x .state) (x .state)) (eqb-refl (x .level)) (eqb-refl (x .state)));
+}
   where
     sound : (x y : Node) → T (same x y) → x ≡ y
     sound x y h =

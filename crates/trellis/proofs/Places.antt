@@ -28,9 +28,11 @@ module _ {A : Type 0} (d : A) where
   place-in (x ∷ l) (suc i) h = further (place-in l i (omega arith))
 
   -- to show that no image comes twice
-  pub places-unique : {B : Type 0} (f : A → B) (l : List A) → ((i k : ℕ) → i < length l → k < length l → f (getD l i d) ≡ f (getD l k d) → i ≡ k) → Unique (map f l)
+  pub places-unique : {B : Type 0} (f : A → B) (l : List A)
+      → ((i k : ℕ) → i < length l → k < length l → f (getD l i d) ≡ f (getD l k d) → i ≡ k) → Unique (map f l)
   places-unique f [] apart = tt
-  places-unique f (x ∷ l) apart = ((λ m. go (map-out f l m)), places-unique f l (λ i k h g e. suc-inj (apart (suc i) (suc k) (omega arith) (omega arith) e)))
+  places-unique f (x ∷ l) apart =
+      ((λ m. go (map-out f l m)), places-unique f l (λ i k h g e. suc-inj (apart (suc i) (suc k) (omega arith) (omega arith) e)))
     where
       go : Mapped f l (f x) → ⊥
       go r =

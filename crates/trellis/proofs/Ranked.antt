@@ -9,7 +9,7 @@ use Rattle.lists.specs.Lists.{_∈_}
 use Rattle.lists.proofs.Membership.{member-cast, map-in, map-out}
 use Rattle.lists.proofs.Unique.{Unique, map-unique}
 use Rattle.lists.proofs.Sorted.{Sorted, sort-in, sort-out, sort-sorted, sorted-unique}
-use Rattle.trellis.specs.Trellis.{Trellis, reachable}
+use Rattle.trellis.specs.Trellis.{Trellis, allowed, reachable}
 use Rattle.trellis.specs.Verdict.{Entry, priced, before, ranked}
 use Rattle.trellis.specs.Sheet.{onto}
 use Rattle.trellis.proofs.Paths.{reachable-in, reachable-out, reachable-unique}
@@ -45,11 +45,12 @@ ranked-sorted t =
 pub ranked-unique : (t : Trellis) → Unique (ranked t)
 ranked-unique t = sorted-unique before before-order (ranked t) (ranked-sorted t)
 
--- the node ranked before e that e has its cost from, and the branch
+-- the node ranked before e that e has its cost from, and the branch between them
 pub record Foregoer (t : Trellis) (e : Entry) : Type 0 where
   pub from : Entry
   pub input : ℕ
   pub member : from ∈ ranked t
+  pub fits : input < allowed t (from .node .level)
   pub gives : e ≡ onto t from input
   pub earlier : T (before from e)
 
@@ -59,4 +60,11 @@ foregoer {t} {e} up h =
     let r = predecessor up h in
     let own : Entry = record { cost = r .spent; node = r .from } in
     let gives : e ≡ onto t own (r .input) = entry-path (sym (r .paid)) (r .enters .leads) in
-    record { from = own; input = r .input; member = ranked-in (r .known); gives = gives; earlier = subst (λ (u : Entry). T (before own u)) (sym gives) (onto-later t own (r .input)) }
+    record {
+      from = own;
+      input = r .input;
+      member = ranked-in (r .known);
+      fits = r .enters .fits;
+      gives = gives;
+      earlier = subst (λ (u : Entry). T (before own u)) (sym gives) (onto-later t own (r .input));
+    }

@@ -18,8 +18,8 @@ use Rattle.trellis.proofs.Cost.{Cost, cost-is, cost-computed}
 -- ---- branches
 
 -- the node that a branch leads to
-abbrev pub onward : Trellis → Node → ℕ → Node
-onward t x b = node (suc (x .level)) (t .next (x .state) b)
+abbrev pub across : Trellis → Node → ℕ → Node
+across t x b = node (suc (x .level)) (t .next (x .state) b)
 
 -- what a branch costs
 abbrev pub fare : Trellis → Node → ℕ → ℕ
@@ -28,12 +28,12 @@ fare t x b = t .price (x .level) (x .state) b
 -- the branch that leaves `from` with `input` is allowed and enters x
 pub record Enters (t : Trellis) (x : Node) (from : Node) (input : ℕ) : Type 0 where
   pub fits : input < allowed t (from .level)
-  pub leads : x ≡ onward t from input
+  pub leads : x ≡ across t from input
 
 -- the successors are the nodes that allowed branches enter
 pub successors-in : {t : Trellis} {x y : Node} {b : ℕ} → Enters t y x b → y ∈ successors t x
 unfolding successors
-successors-in {t} {x} h = subst (λ (z : Node). z ∈ map (λ b. onward t x b) (below (allowed t (x .level)))) (sym (h .leads)) (map-in (λ b. onward t x b) (below-in (allowed t (x .level)) (h .fits)))
+successors-in {t} {x} h = member-cast (h .leads) (map-in (across t x) (below-in (allowed t (x .level)) (h .fits)))
 
 -- the branch by which y succeeds x
 pub record Succeeds (t : Trellis) (x y : Node) : Type 0 where
@@ -43,7 +43,7 @@ pub record Succeeds (t : Trellis) (x y : Node) : Type 0 where
 pub successors-out : (t : Trellis) (x : Node) {y : Node} → y ∈ successors t x → Succeeds t x y
 unfolding successors
 successors-out t x m =
-    let r = map-out (λ b. onward t x b) (below (allowed t (x .level))) m in
+    let r = map-out (across t x) (below (allowed t (x .level))) m in
     record { input = r .source; enters = record { fits = below-out (allowed t (x .level)) (r .member); leads = r .equal } }
 
 -- ---- a path and its last branch
@@ -110,27 +110,11 @@ predecessor {t} {x} {c} up h = go (h .path) (h .there) (h .paid)
           paid = omega (arith, metric-extend b (ends-rest e), cost-enters h k (ends-last e));
         }
 
--- and back: the least such sum is the cost
-pub cost-from : {t : Trellis} {x : Node} {c : ℕ} → Predecessor t x c
-    → ((y : Node) (b d : ℕ) → Cost t y d → Enters t x y b → c ≤ d + fare t y b) → Cost t x c
-cost-from {t} {x} {c} r low = record {
-  path = r .input ∷ r .known .path;
-  there = extend (r .known .there) (r .enters);
-  paid = omega (arith, metric-extend (r .input) (r .known .there), r .known .paid, r .paid);
-  least = (λ p h. go p h);
-}
-  where
-    go : (p : Path) → Ends t x p → c ≤ metric t p
-    go [] h = absurd (omega (arith, h .level, ap (λ (z : Node). z .level) (r .enters .leads)))
-    go (b ∷ p) h =
-        let k : Cost t (endNode t p) (cost t (endNode t p)) = cost-is (ends-rest h) in
-        omega (arith, metric-extend b (ends-rest h), k .least p (ends-rest h), low (endNode t p) b (cost t (endNode t p)) k (ends-last h))
-
 -- ---- the recurrence, computed
 
 -- what the branches from y into x bring, y being left at its cost; and from all reachable nodes
 abbrev arrivalsFrom : Trellis → Node → Node → List ℕ
-arrivalsFrom t x y = map (λ b. cost t y + fare t y b) (keep (λ b. same (onward t y b) x) (below (allowed t (y .level))))
+arrivalsFrom t x y = map (λ b. cost t y + fare t y b) (keep (λ b. same (across t y b) x) (below (allowed t (y .level))))
 
 unfoldable pub arrivals : Trellis → Node → List ℕ
 arrivals t x = flatMap (arrivalsFrom t x) (reachable t)
@@ -141,23 +125,23 @@ unfolding arrivals
 arrivals-in {t} {x} {c} r =
     let y : Node = r .from in
     let fits = below-in (allowed t (y .level)) (r .enters .fits) in
-    let leads : T (same (onward t y (r .input)) x) = subst (λ (z : Node). T (same (onward t y (r .input)) z)) (sym (r .enters .leads)) (same-equality .complete (onward t y (r .input))) in
+    let leads : T (same (across t y (r .input)) x) = rw (r .enters .leads) (same-equality .complete (across t y (r .input))) in
     let paid : c ≡ cost t y + fare t y (r .input) = omega (arith, r .paid, cost-computed (r .known)) in
     member-cast paid
     (flatMap-in (arrivalsFrom t x) (reachable-in (r .known .there))
-    (map-in (λ b. cost t y + fare t y b) (keep-in (λ b. same (onward t y b) x) fits leads)))
+    (map-in (λ b. cost t y + fare t y b) (keep-in (λ b. same (across t y b) x) fits leads)))
 
 pub arrivals-out : (t : Trellis) (x : Node) {c : ℕ} → c ∈ arrivals t x → Predecessor t x c
 unfolding arrivals
 arrivals-out t x m =
     let r = flatMap-out (arrivalsFrom t x) (reachable t) m in
     let y : Node = r .source in
-    let a = map-out (λ b. cost t y + fare t y b) (keep (λ b. same (onward t y b) x) (below (allowed t (y .level)))) (r .inner) in
-    let k = keep-out (λ b. same (onward t y b) x) (below (allowed t (y .level))) (a .member) in
+    let a = map-out (λ b. cost t y + fare t y b) (keep (λ b. same (across t y b) x) (below (allowed t (y .level)))) (r .inner) in
+    let k = keep-out (λ b. same (across t y b) x) (below (allowed t (y .level))) (a .member) in
     record {
       from = y;
       input = a .source;
-      enters = record { fits = below-out (allowed t (y .level)) (k .member); leads = sym (same-equality .sound (onward t y (a .source)) x (k .passes)) };
+      enters = record { fits = below-out (allowed t (y .level)) (k .member); leads = sym (same-equality .sound (across t y (a .source)) x (k .passes)) };
       spent = cost t y;
       known = cost-is (reachable-out t (r .member) .there);
       paid = sym (a .equal);

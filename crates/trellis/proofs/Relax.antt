@@ -3,7 +3,7 @@
 use mathlib.Core.Path.{_≡_, refl, sym, ap, _∙_, subst}
 use mathlib.Core.Logic.{_⊎_, inl, inr}
 use mathlib.Core.List.{List, [], _∷_}
-use mathlib.Core.Bool.{Bool, true, false}
+use mathlib.Core.Bool.{Bool, true, false, true≢false}
 use Prim.Native.Nat.{ℕ, suc, _≤_, _<_, min}
 use native.Mathlib.Omega.{arith}
 use lib.ListN.{length, take, length-set, length-append}
@@ -17,7 +17,7 @@ use Rattle.trellis.proofs.Order.{entry-path}
 use Rattle.trellis.proofs.Ranked.{ranked-out}
 use Rattle.trellis.proofs.MetNodes.{met-in}
 use Rattle.trellis.proofs.Sharing.{Branch, branch, lands, Fits, shared, starting}
-use Rattle.trellis.proofs.Rows.{true-false, Changed, set-changed, added-changed}
+use Rattle.trellis.proofs.Rows.{Changed, set-changed, added-changed}
 use Rattle.trellis.proofs.Entered.{Unmet, Entered, lowers, joins, leaves, adds, stops, entered-is}
 use Rattle.trellis.proofs.Table.{Link, Table, Taken, Arrives, ways, ways-none, ways-more, ways-same, table-change}
 use Rattle.trellis.proofs.Trace.{row-above}
@@ -43,11 +43,12 @@ pub record Going (Fits : List Row → Type 0) (Short : Type 0) (r : Tried) : Typ
   pub went : r .full ≡ false → Fits (r .rows)
   pub stuck : r .full ≡ true → Short
 
+-- where it is known which
 went : {Fits : List Row → Type 0} {Short : Type 0} (rows : List Row) → Fits rows → Going Fits Short (record { rows = rows; full = false })
-went rows h = record { went = (λ _. h); stuck = (λ e. absurd (true-false (sym e))) }
+went rows h = record { went = (λ _. h); stuck = (λ e. absurd (true≢false (sym e))) }
 
 stuck : {Fits : List Row → Type 0} {Short : Type 0} (rows : List Row) → Short → Going Fits Short (record { rows = rows; full = true })
-stuck rows h = record { went = (λ e. absurd (true-false e)); stuck = (λ _. h) }
+stuck rows h = record { went = (λ e. absurd (true≢false e)); stuck = (λ _. h) }
 
 -- one branch more is taken
 taken-more : {t : Trellis} {j b : ℕ} {z : Entry} {taken : List Branch} → z ∈ take j (ranked t) → b < allowed t (z .node .level)
@@ -80,11 +81,13 @@ taken-more {t} {j} {b} {z} {taken} zin u E = record {
         go (inl e) = inl (here (λ i. branch (p .0 i) (sym e i)))
         go (inr l) = inr (p .0, l)
 
-not-true : (b : Bool) → (b ≡ true → ⊥) → b ≡ false
-not-true true f = absurd (f refl)
-not-true false f = refl
+-- for a row that is not closed
+not-closed : (b : Bool) → (b ≡ true → ⊥) → b ≡ false
+not-closed true f = absurd (f refl)
+not-closed false f = refl
 
-module _ {t : Trellis} {cap room j i : ℕ} {z : Entry} {b : ℕ} {rows : List Row} (M : Amid t cap room j i z b rows) (u : b < allowed t (nodeAt rows i .level)) where
+module _ {t : Trellis} {cap room j i : ℕ} {z : Entry} {b : ℕ} {rows : List Row}
+    (M : Amid t cap room j i z b rows) (u : b < allowed t (nodeAt rows i .level)) where
   abbrev g : Branch
   g = branch (entryAt rows i) b
 
@@ -98,7 +101,8 @@ module _ {t : Trellis} {cap room j i : ℕ} {z : Entry} {b : ℕ} {rows : List R
   link = record { within = M .within; shut = M .shut; fits = u; comes = refl }
 
   -- the rows with the branch's node in place
-  amid-change : (after : List Row) (k : ℕ) (r : Row) → Changed rows after k r → Arrives t cap (M .taken) rows g k r → length after ≤ room → Amid t cap room j i z (suc b) after
+  amid-change : (after : List Row) (k : ℕ) (r : Row) → Changed rows after k r → Arrives t cap (M .taken) rows g k r → length after ≤ room
+      → Amid t cap room j i z (suc b) after
   amid-change after k r C A h =
       let same : rowAt after i ≡ rowAt rows i = C .others i (omega (arith, M .within, C .longer)) apart in
       record {
@@ -138,6 +142,7 @@ module _ {t : Trellis} {cap room j i : ℕ} {z : Entry} {b : ℕ} {rows : List R
         cost-enters (ranked-out t (take-out j (ranked t) (entryAt rows k) (M .table .shut k h c))) (ranked-out t (take-out j (ranked t) (entryAt rows i) zin))
         (record { fits = u; leads = e })
 
+    -- a cheaper way
     amid-lowered : a .entry .cost < costAt rows k → Amid t cap room j i z (suc b) (lowered rows k a)
     amid-lowered l = amid-change (lowered rows k a) k a (set-changed rows k a h) (record {
       node = refl;
@@ -145,7 +150,7 @@ module _ {t : Trellis} {cap room j i : ℕ} {z : Entry} {b : ℕ} {rows : List R
       link = link;
       counted = counted-first (λ f m q. first f m q);
       only = only;
-      known = (λ _. record { node = sym e; closed = sym (not-true (rowAt rows k .closed) live); exact = (λ c. absurd (live c)); cheaper = omega arith });
+      known = (λ _. record { node = sym e; closed = sym (not-closed (rowAt rows k .closed) live); exact = (λ c. absurd (live c)); cheaper = omega arith });
       fresh = (λ w. absurd (omega arith));
     }) (rw (length-set rows k a) (M .held))
       where
@@ -158,8 +163,13 @@ module _ {t : Trellis} {cap room j i : ℕ} {z : Entry} {b : ℕ} {rows : List R
             let w : s .row ≡ k = only (s .row) (s .within) (s .equal ∙ ap (λ (x : Entry). x .node) q) in
             omega (arith, s .small, ap (λ (x : ℕ). costAt rows x) w, ap (λ (x : Entry). x .cost) q)
 
+    -- the row with so many paths more
+    abbrev more : Row
+    more = gained cap (a .count) (rowAt rows k)
+
+    -- a way at the same cost
     amid-joined : a .entry .cost ≡ costAt rows k → Amid t cap room j i z (suc b) (joined cap rows k (a .count))
-    amid-joined c = amid-change (joined cap rows k (a .count)) k (gained cap (a .count) (rowAt rows k)) (set-changed rows k (gained cap (a .count) (rowAt rows k)) h) (record {
+    amid-joined c = amid-change (joined cap rows k (a .count)) k more (set-changed rows k more h) (record {
       node = e;
       small = omega arith;
       link = record { within = own .within; shut = own .shut; fits = own .fits; comes = own .comes };
@@ -167,13 +177,14 @@ module _ {t : Trellis} {cap room j i : ℕ} {z : Entry} {b : ℕ} {rows : List R
       only = only;
       known = (λ _. record { node = refl; closed = refl; exact = (λ _. refl); cheaper = omega arith });
       fresh = (λ w. absurd (omega arith));
-    }) (rw (length-set rows k (gained cap (a .count) (rowAt rows k))) (M .held))
+    }) (rw (length-set rows k more) (M .held))
       where
         own : Link t rows (rowAt rows k)
         own = M .table .linked k above h
 
+    -- a dearer way
     amid-left : costAt rows k < a .entry .cost → Amid t cap room j i z (suc b) rows
-    amid-left l = amid-change rows k (rowAt rows k) (record { within = h; here = refl; longer = omega arith; older = (λ l m d. m); others = (λ l m d. refl) }) (record {
+    amid-left l = amid-change rows k (rowAt rows k) same (record {
       node = e;
       small = omega arith;
       link = M .table .linked k above h;
@@ -182,10 +193,14 @@ module _ {t : Trellis} {cap room j i : ℕ} {z : Entry} {b : ℕ} {rows : List R
       known = (λ _. record { node = refl; closed = refl; exact = (λ _. refl); cheaper = omega arith });
       fresh = (λ w. absurd (omega arith));
     }) (M .held)
+      where
+        same : Changed rows rows k (rowAt rows k)
+        same = record { within = h; here = refl; longer = omega arith; older = (λ l m d. m); others = (λ l m d. refl) }
 
   -- ---- the node has none
 
   module _ (none : Unmet rows a) where
+    -- a row more, where there is room
     amid-added : length rows < room → Amid t cap room j i z (suc b) (added rows a)
     amid-added h = amid-change (added rows a) (length rows) a (added-changed rows a) (record {
       node = refl;
@@ -197,6 +212,7 @@ module _ {t : Trellis} {cap room j i : ℕ} {z : Entry} {b : ℕ} {rows : List R
       fresh = (λ _. refl);
     }) (omega (arith, length-append rows (a ∷ [])))
 
+    -- no room: then D is above it
     amid-full : room ≤ length rows → room < met t j
     amid-full h =
         let w : length rows < met t j = rows-short (M .table) (a .entry .node)

@@ -1,10 +1,9 @@
--- The store's functions on rows: what a change leaves alone, what findRow and firstOpen find, and that only they find it.
--- A program that keeps rows in another way shows RowOf and First of what it found, and has the pure function's answer.
--- Assumes nothing.
+-- The store's functions on rows: what a change leaves alone, what findRow and firstOpen find, and that no other row is the first open
+-- one. What nextClosed finds is in NextClosed. Assumes nothing.
 use mathlib.Core.Path.{_≡_, refl, sym, _∙_, subst}
 use mathlib.Core.Logic.{_⊎_, inl, inr}
 use mathlib.Core.List.{List, [], _∷_, _++_}
-use mathlib.Core.Bool.{Bool, true, false, cond, _&&_}
+use mathlib.Core.Bool.{Bool, true, false, cond, _&&_, true≢false}
 use Prim.Native.Nat.{ℕ, zero, suc, _≤_, _<_}
 use native.Mathlib.Decide.{decLt}
 use native.Mathlib.Omega.{arith}
@@ -17,10 +16,6 @@ use Rattle.trellis.specs.Verdict.{Entry, before}
 use Rattle.trellis.specs.Search.{Row, noRow, rowAt, entryAt, nodeAt, findRow, firstOpen}
 use Rattle.trellis.proofs.Paths.{same-equality}
 use Rattle.trellis.proofs.Order.{before-order}
-
--- a row is not closed and open
-pub true-false : true ≡ false → ⊥
-true-false e = subst T e tt
 
 -- ---- changes
 
@@ -78,15 +73,6 @@ findRow-is x (r ∷ rows) = go (test (same (r .entry .node) x)) (findRow-is x ro
         (record { within = omega arith; here = (λ _. same-equality .sound (r .entry .node) x h); none = (λ i k. absurd (omega arith)) })
     go (no h) ih = rw (false-out (same (r .entry .node) x) h) (later h ih)
 
--- whoever finds the row of a node finds what findRow finds
-pub findRow-unique : (x : Node) (rows : List Row) (k : ℕ) → RowOf x rows k → k ≡ findRow x rows
-findRow-unique x rows k h = go (decLt k (findRow x rows)) (decLt (findRow x rows) k) (findRow-is x rows)
-  where
-    go : Dec (k < findRow x rows) → Dec (findRow x rows < k) → RowOf x rows (findRow x rows) → k ≡ findRow x rows
-    go (yes l) d f = absurd (f .none k l (h .here (omega (arith, f .within))))
-    go (no m) (yes l) f = absurd (h .none (findRow x rows) l (f .here (omega (arith, h .within))))
-    go (no m) (no l) f = omega arith
-
 -- ---- the first open row
 
 -- k is the open row that is first in node order, of equal ones the first; the number of rows if none is open
@@ -107,7 +93,8 @@ firstOpen-is [] = record {
   least = (λ i h. absurd (omega arith));
   early = (λ i h. absurd (omega arith));
 }
-firstOpen-is (r ∷ rows) = go (r .closed) refl (test (ltb (firstOpen rows) (length rows) && before (entryAt rows (firstOpen rows)) (r .entry))) (firstOpen-is rows)
+firstOpen-is (r ∷ rows) =
+    go (r .closed) refl (test (ltb (firstOpen rows) (length rows) && before (entryAt rows (firstOpen rows)) (r .entry))) (firstOpen-is rows)
   where
     k : ℕ
     k = firstOpen rows
@@ -148,7 +135,7 @@ firstOpen-is (r ∷ rows) = go (r .closed) refl (test (ltb (firstOpen rows) (len
 
     go : (shut : Bool) → r .closed ≡ shut → Dec (T (ltb k (length rows) && before z (r .entry))) → First rows k
         → First (r ∷ rows) (cond shut (suc k) (cond (ltb k (length rows) && before z (r .entry)) (suc k) 0))
-    go true e d f = skip (λ c. absurd (true-false (sym e ∙ c))) f
+    go true e d f = skip (λ c. absurd (true≢false (sym e ∙ c))) f
     go false e (yes h) f =
         let both = and-out (ltb k (length rows)) (before z (r .entry)) h in
         rw (true-out (ltb k (length rows) && before z (r .entry)) h) (skip (λ _. (ltb→lt k (length rows) (both .0), both .1)) f)

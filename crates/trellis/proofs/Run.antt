@@ -46,11 +46,13 @@ module _ (t : Trellis) (cap room j : ℕ) (rows : List Row) where
     unfolding run
     run-spent = rw (run, false-out (same (nodeAt rows (firstOpen rows)) (terminal t)) off)
 
-    pub run-full : (left : ℕ) → after t cap room rows .full ≡ true → run t cap room (suc left) j rows ≡ record { rows = after t cap room rows .rows; outcome = full j }
+    pub run-full : (left : ℕ) → after t cap room rows .full ≡ true
+        → run t cap room (suc left) j rows ≡ record { rows = after t cap room rows .rows; outcome = full j }
     unfolding run
     run-full left e = rw (run, false-out (same (nodeAt rows (firstOpen rows)) (terminal t)) off, e)
 
-    pub run-on : (left : ℕ) → after t cap room rows .full ≡ false → run t cap room (suc left) j rows ≡ run t cap room left (suc j) (after t cap room rows .rows)
+    pub run-on : (left : ℕ) → after t cap room rows .full ≡ false
+        → run t cap room (suc left) j rows ≡ run t cap room left (suc j) (after t cap room rows .rows)
     unfolding run
     run-on left e = rw (run, false-out (same (nodeAt rows (firstOpen rows)) (terminal t)) off, e)
 
@@ -100,6 +102,7 @@ module _ {t : Trellis} (law : Lawful t) {cap room : ℕ} where
       pub step-going : Going (Between t cap room (suc j)) (room < met t (suc j)) (after t cap room rows)
       step-going = expand-going M (firstOpen-is rows) inside apart
 
+    -- the terminal is first
     arriving : (left : ℕ) → Arrived t rows → Ending t cap room (j + left) (run t cap room left j rows)
     arriving left h =
         at-terminal j (firstOpen rows) rows M (firstOpen-is rows) inside (same-equality .sound (nodeAt rows (firstOpen rows)) (terminal t) h) (omega arith)
@@ -115,7 +118,8 @@ module _ {t : Trellis} (law : Lawful t) {cap room : ℕ} where
           let e : j + 0 ≡ j = omega arith in
           rw e (out-of-steps rows (further M off) (fits M) (run-spent t cap room j rows off))
   run-ending (suc left) j rows M =
-      go (test (same (nodeAt rows (firstOpen rows)) (terminal t))) (after t cap room rows .full) refl (λ m. run-ending left (suc j) (after t cap room rows .rows) m)
+      go (test (same (nodeAt rows (firstOpen rows)) (terminal t))) (after t cap room rows .full) refl
+      (λ m. run-ending left (suc j) (after t cap room rows .rows) m)
     where
       next : Tried
       next = after t cap room rows
@@ -124,10 +128,12 @@ module _ {t : Trellis} (law : Lawful t) {cap room : ℕ} where
           → (Between t cap room (suc j) (next .rows) → Ending t cap room (suc j + left) (run t cap room left (suc j) (next .rows)))
           → Ending t cap room (j + suc left) (run t cap room (suc left) j rows)
       go (yes h) shut e ih = arriving M (suc left) h
-      go (no off) true e ih = out-of-room j (next .rows) (further M off) (omega arith) (fits M) (step-going M off .stuck e) (run-full t cap room j rows off left e)
+      go (no off) true e ih =
+          out-of-room j (next .rows) (further M off) (omega arith) (fits M) (step-going M off .stuck e) (run-full t cap room j rows off left e)
       go (no off) false e ih =
           let n : suc j + left ≡ j + suc left = omega arith in
-          subst (λ (a : ℕ). Ending t cap room a (run t cap room (suc left) j rows)) n (rw (run-on t cap room j rows off left e) (ih (step-going M off .went e)))
+          subst (λ (a : ℕ). Ending t cap room a (run t cap room (suc left) j rows)) n
+          (rw (run-on t cap room j rows off left e) (ih (step-going M off .went e)))
 
 -- and so does the search
 pub searched-ending : {t : Trellis} → Lawful t → (cap room allowance : ℕ) → 1 ≤ cap → Ending t cap room allowance (searched t cap room allowance)

@@ -3,23 +3,19 @@
 -- input one of the trellis, its count within the cap; no node has two rows; there are no more rows than room. Every step of the
 -- search keeps this. That the search is right is not here but in Between, Expand and Searched. Assumes nothing.
 use mathlib.Core.Path.{_≡_, refl, sym, ap, _∙_, subst}
-use mathlib.Core.Logic.{_⊎_, inl, inr}
 use mathlib.Core.List.{List, [], _∷_}
 use mathlib.Core.Bool.{Bool, true, false}
 use Prim.Native.Nat.{ℕ, zero, suc, _+_, _≤_, _<_}
 use native.Mathlib.Decide.{ℕ-discrete, decLt}
 use native.Mathlib.Omega.{arith}
-use lib.Dec.{T}
 use lib.ListN.{length, length-set, length-append}
 use Rattle.trellis.specs.Trellis.{Trellis, Node, top, allowed, ends, along}
-use Rattle.trellis.specs.Verdict.{Entry, before}
 use Rattle.trellis.specs.Sheet.{onto}
 use Rattle.trellis.specs.Lawful.{start}
-use Rattle.trellis.specs.Search.{Row, rowAt, entryAt, nodeAt, started, findRow, firstOpen, gained, shut, closed, Tried, arrival, relax, onward, fan, expand}
+use Rattle.trellis.specs.Search.{Row, rowAt, entryAt, nodeAt, started, gained, shut, closed, Tried, arrival, relax, onward, fan, expand}
 use Rattle.trellis.proofs.Paths.{ends-here, allowed-message, allowed-tail, allowed-none, path-short}
-use Rattle.trellis.proofs.Order.{before-order}
 use Rattle.trellis.proofs.Step.{Attained, attains-onto}
-use Rattle.trellis.proofs.Rows.{Changed, set-changed, added-changed, findRow-unique, firstOpen-unique}
+use Rattle.trellis.proofs.Rows.{Changed, set-changed, added-changed}
 use Rattle.trellis.proofs.Entered.{Entered, lowers, joins, leaves, adds, stops, entered-is}
 
 -- a row among n rows
@@ -30,50 +26,27 @@ pub record SafeRow (t : Trellis) (cap n : ℕ) (r : Row) : Type 0 where
   pub input : r .input < t .inputs
   pub count : r .count ≤ cap
 
+-- all rows
 pub record Safe (t : Trellis) (cap room : ℕ) (rows : List Row) : Type 0 where
+  -- there is room for them
   pub held : length rows ≤ room
   pub each : (i : ℕ) → i < length rows → SafeRow t cap (length rows) (rowAt rows i)
+  -- no node has two
   pub once : (i k : ℕ) → i < length rows → k < length rows → nodeAt rows i ≡ nodeAt rows k → i ≡ k
 
 -- no row stands above the top
 pub safe-level : {t : Trellis} {cap n : ℕ} {r : Row} → SafeRow t cap n r → r .entry .node .level ≤ top t
 safe-level s = let h = s .attained .attains .there in omega (arith, path-short (h .allowed), h .level)
 
--- ---- what finds the same as the pure functions
-
-module _ {t : Trellis} {cap room : ℕ} {rows : List Row} (S : Safe t cap room rows) {k : ℕ} (h : k < length rows) where
-  -- any row of the node is the one that findRow finds
-  pub find-known : (x : Node) → nodeAt rows k ≡ x → k ≡ findRow x rows
-  find-known x e = findRow-unique x rows k (record { within = omega arith; here = (λ _. e); none = (λ i l q. none′ i l (S .once i k (omega arith) h (q ∙ sym e))) })
-    where
-      none′ : (i : ℕ) → i < k → i ≡ k → ⊥
-      none′ i l e = omega arith
-
-  -- any open row that no open row is before is the one that firstOpen finds
-  pub first-known : rowAt rows k .closed ≡ false → ((i : ℕ) → i < length rows → rowAt rows i .closed ≡ false → T (before (entryAt rows i) (entryAt rows k)) → ⊥)
-      → k ≡ firstOpen rows
-  first-known live least = firstOpen-unique rows k (record {
-    within = omega arith;
-    live = (λ _. live);
-    some = (λ i l e. h);
-    least = least;
-    early = (λ i l e. pick i l e (before-order .total (entryAt rows k) (entryAt rows i)));
-  })
-    where
-      pick : (i : ℕ) → i < k → rowAt rows i .closed ≡ false
-          → T (before (entryAt rows k) (entryAt rows i)) ⊎ ((entryAt rows k ≡ entryAt rows i) ⊎ T (before (entryAt rows i) (entryAt rows k)))
-          → T (before (entryAt rows k) (entryAt rows i))
-      pick i l e (inl b) = b
-      pick i l e (inr (inl q)) = let w : k ≡ i = S .once k i h (omega arith) (ap (λ (x : Entry). x .node) q) in absurd (omega arith)
-      pick i l e (inr (inr b)) = absurd (least i (omega arith) e b)
-
 -- ---- changes
 
+-- a row among more rows
 safe-more : {t : Trellis} {cap n m : ℕ} {r : Row} → n ≤ m → SafeRow t cap n r → SafeRow t cap m r
 safe-more h s = record { attained = s .attained; parent = omega (arith, s .parent); input = s .input; count = s .count }
 
 -- a safe row, the only one of its node
-safe-change : {t : Trellis} {cap room : ℕ} {rows after : List Row} {k : ℕ} {r : Row} → Safe t cap room rows → Changed rows after k r → SafeRow t cap (length rows) r
+safe-change : {t : Trellis} {cap room : ℕ} {rows after : List Row} {k : ℕ} {r : Row}
+    → Safe t cap room rows → Changed rows after k r → SafeRow t cap (length rows) r
     → ((i : ℕ) → i < length rows → nodeAt rows i ≡ r .entry .node → i ≡ k) → length after ≤ room → Safe t cap room after
 safe-change {t} {cap} {room} {rows} {after} {k} {r} S C R only h = record {
   held = h;
@@ -102,14 +75,17 @@ pub record Grown (t : Trellis) (cap room i : ℕ) (rows after : List Row) : Type
   pub longer : length rows ≤ length after
   pub stays : rowAt after i ≡ rowAt rows i
 
+-- for a branch that changes nothing, for one branch after another, and for the rest after a try
 grown-same : {t : Trellis} {cap room i : ℕ} {rows : List Row} → Safe t cap room rows → Grown t cap room i rows rows
 grown-same S = record { safe = S; longer = omega arith; stays = refl }
 
-grown-trans : {t : Trellis} {cap room i : ℕ} {rows mid after : List Row} → Grown t cap room i rows mid → Grown t cap room i mid after → Grown t cap room i rows after
+grown-trans : {t : Trellis} {cap room i : ℕ} {rows mid after : List Row}
+    → Grown t cap room i rows mid → Grown t cap room i mid after → Grown t cap room i rows after
 grown-trans g h = record { safe = h .safe; longer = omega (arith, g .longer, h .longer); stays = h .stays ∙ g .stays }
 
 onward-grown : {t : Trellis} {cap room i : ℕ} {first : List Row} (rows : List Row) (full : Bool) (next : List Row → Tried)
-    → Grown t cap room i first rows → Grown t cap room i first (next rows .rows) → Grown t cap room i first (onward (record { rows = rows; full = full }) next .rows)
+    → Grown t cap room i first rows → Grown t cap room i first (next rows .rows)
+    → Grown t cap room i first (onward (record { rows = rows; full = full }) next .rows)
 unfolding onward
 onward-grown rows true next g h = g
 onward-grown rows false next g h = h
@@ -120,7 +96,12 @@ unfolding ends along
 safe-started t cap room w c h = record { held = omega arith; each = each′; once = (λ i k u v e. omega arith) }
   where
     each′ : (i : ℕ) → i < 1 → SafeRow t cap 1 (rowAt started i)
-    each′ zero u = record { attained = record { path = []; attains = record { there = ends-here start; paid = refl } }; parent = omega arith; input = omega arith; count = omega arith }
+    each′ zero u = record {
+      attained = record { path = []; attains = record { there = ends-here start; paid = refl } };
+      parent = omega arith;
+      input = omega arith;
+      count = omega arith;
+    }
     each′ (suc i) u = absurd (omega arith)
 
 -- no level has more inputs than a step of the message
@@ -170,14 +151,16 @@ module _ {t : Trellis} {cap room : ℕ} (wide : 0 < t .inputs) where
           grown C R d only m = record { safe = safe-change S C R only m; longer = C .longer; stays = C .others i (omega (arith, C .longer)) d }
 
           go : {r : Tried} → Entered cap room rows (arrival t rows i b) r → Grown t cap room i rows (r .rows)
-          go (lowers k l e c) = grown (set-changed rows k a l) safe-arrival (apart k e) (λ m n q. S .once m k n l (q ∙ sym e)) (rw (length-set rows k a) (S .held))
+          go (lowers k l e c) =
+              grown (set-changed rows k a l) safe-arrival (apart k e) (λ m n q. S .once m k n l (q ∙ sym e)) (rw (length-set rows k a) (S .held))
           go (joins k l e c) =
               let s = S .each k l in
               let r : Row = gained cap (a .count) (rowAt rows k) in
               grown (set-changed rows k r l) (record { attained = s .attained; parent = s .parent; input = s .input; count = omega arith })
               (apart k e) (λ m n q. S .once m k n l q) (rw (length-set rows k r) (S .held))
           go (leaves k l e c) = grown-same S
-          go (adds none l) = grown (added-changed rows a) safe-arrival (λ q. omega arith) (λ m n q. absurd (none m n q)) (omega (arith, length-append rows (a ∷ [])))
+          go (adds none l) =
+              grown (added-changed rows a) safe-arrival (λ q. omega arith) (λ m n q. absurd (none m n q)) (omega (arith, length-append rows (a ∷ [])))
           go (stops none l) = grown-same S
 
   -- so do the branches from an input upwards
@@ -188,7 +171,8 @@ module _ {t : Trellis} {cap room : ℕ} (wide : 0 < t .inputs) where
   safe-fan (suc left) b {rows = rows} S {i = i} h u =
       let r : Tried = relax t cap room i b rows in
       let G : Grown t cap room i rows (r .rows) = safe-relax S h (omega arith) in
-      let e : allowed t (nodeAt (r .rows) i .level) ≡ allowed t (nodeAt rows i .level) = ap (λ (s : Row). allowed t (s .entry .node .level)) (G .stays) in
+      let e : allowed t (nodeAt (r .rows) i .level) ≡ allowed t (nodeAt rows i .level) =
+      ap (λ (s : Row). allowed t (s .entry .node .level)) (G .stays) in
       onward-grown (r .rows) (r .full) (λ next. fan t cap room i left (suc b) next) G
       (grown-trans G (safe-fan left (suc b) (G .safe) (omega (arith, G .longer)) (omega arith)))
 
@@ -197,5 +181,6 @@ module _ {t : Trellis} {cap room : ℕ} (wide : 0 < t .inputs) where
   unfolding expand
   safe-expand {rows = rows} S {i = i} h =
       let C = set-changed rows i (shut (rowAt rows i)) h in
-      let e : allowed t (nodeAt (closed rows i) i .level) ≡ allowed t (nodeAt rows i .level) = ap (λ (r : Row). allowed t (r .entry .node .level)) (C .here) in
+      let e : allowed t (nodeAt (closed rows i) i .level) ≡ allowed t (nodeAt rows i .level) =
+      ap (λ (r : Row). allowed t (r .entry .node .level)) (C .here) in
       safe-fan (allowed t (nodeAt rows i .level)) 0 (safe-closed S h) (C .within) (omega arith) .safe

@@ -1,29 +1,24 @@
 -- Law 8: the pure search gives the verdict of the definitions, for every lawful trellis, every room and allowance, and every cap from
 -- 2 on. Where it finds the terminal, its count is how many messages share the least metric, stopped at the cap, and its trace is a
--- least path. Its steps are never more than allowed. This is what the program cites. Assumes nothing.
+-- least path. This is what the program cites. Assumes nothing.
 use mathlib.Core.Path.{_≡_, sym, ap, _∙_, subst}
 use Prim.Native.Nat.{ℕ, _≤_}
 use native.Mathlib.Omega.{arith}
 use Rattle.trellis.specs.Trellis.{Trellis}
 use Rattle.trellis.specs.Verdict.{roomShort, steps, met, verdict}
 use Rattle.trellis.specs.Lawful.{Lawful}
-use Rattle.trellis.specs.Search.{rowAt, costAt, Outcome, found, full, spent, Ended, searched, read, verdictOf}
+use Rattle.trellis.specs.Search.{rowAt, costAt, found, Ended, searched, read, verdictOf}
 use Rattle.trellis.proofs.Verdicts.{verdict-none, verdict-full, verdict-spent, verdict-found}
 use Rattle.trellis.proofs.Between.{between-met}
 use Rattle.trellis.proofs.Found.{Right, found-right, found-decided}
 use Rattle.trellis.proofs.Run.{Ending, no-room, at-terminal, out-of-room, out-of-steps, searched-ending}
 
--- how many steps were done
-unfoldable pub stepsOf : Outcome → ℕ
-stepsOf (found metric steps count row) = steps
-stepsOf (full steps) = steps
-stepsOf (spent steps) = steps
-
 module _ {t : Trellis} (law : Lawful t) (cap room allowance : ℕ) where
   -- the verdict, by how the search ended
   ending-verdict : 2 ≤ cap → {e : Ended} → Ending t cap room allowance e → verdictOf t e ≡ verdict t room allowance
   unfolding read
-  ending-verdict two (no-room z e) = ap (verdictOf t) e ∙ sym (subst (λ (r : ℕ). verdict t r allowance ≡ roomShort 0) (sym z) (verdict-none t allowance))
+  ending-verdict two (no-room z e) =
+      ap (verdictOf t) e ∙ sym (subst (λ (r : ℕ). verdict t r allowance ≡ roomShort 0) (sym z) (verdict-none t allowance))
   ending-verdict two (at-terminal j i rows M f h q l e) =
       let s : steps t ≡ j = found-right law M f h q .ended in
       let w : met t (steps t) ≤ room = rw (s, ← between-met M) (M .held) in
@@ -52,14 +47,3 @@ module _ {t : Trellis} (law : Lawful t) (cap room allowance : ℕ) where
           rw (← r, ← c, ← v, ← n, ← m) (found-right law M f h q)
       go (out-of-room j rows h k r q e) p = let n : _≡_ {A = ℕ} 0 1 = cc (e, p) in absurd (omega arith)
       go (out-of-steps rows h r e) p = let n : _≡_ {A = ℕ} 0 1 = cc (e, p) in absurd (omega arith)
-
-  -- the counter of steps stays within the allowance
-  pub searched-steps : 1 ≤ cap → stepsOf (searched t cap room allowance .outcome) ≤ allowance
-  unfolding stepsOf
-  searched-steps one = go (searched-ending law cap room allowance one)
-    where
-      go : {e : Ended} → Ending t cap room allowance e → stepsOf (e .outcome) ≤ allowance
-      go (no-room z e) = omega (arith, ap (λ (x : Ended). stepsOf (x .outcome)) e)
-      go (at-terminal j i rows M f h q l e) = omega (arith, ap (λ (x : Ended). stepsOf (x .outcome)) e)
-      go (out-of-room j rows h k p q e) = omega (arith, ap (λ (x : Ended). stepsOf (x .outcome)) e)
-      go (out-of-steps rows h p e) = omega (arith, ap (λ (x : Ended). stepsOf (x .outcome)) e)

@@ -18,9 +18,8 @@ use Rattle.trellis.specs.Lawful.{start}
 use Rattle.trellis.proofs.Paths.{Ends, ends-here}
 use Rattle.trellis.proofs.Cost.{Cost, cost-is, cost-unique, cost-origin, LeastPaths, leastPaths, leastPaths-length}
 use Rattle.trellis.proofs.Recurrence.{extend, metric-extend, ends-rest, ends-last, cost-enters, reached-origin}
-use Rattle.trellis.proofs.Order.{entry-path}
+use Rattle.trellis.proofs.Order.{entry-path, mark}
 use Rattle.trellis.proofs.Ranked.{Priced}
-use Rattle.trellis.proofs.Step.{mark}
 
 -- ---- sums
 
@@ -40,6 +39,7 @@ unfolding total stopped
 stopped-total cap f [] = omega arith
 stopped-total cap f (x ∷ l) = let ih = stopped-total cap f l in omega arith
 
+-- to count lists put together
 length-flatMap : {A B : Type 0} (f : A → List B) (l : List A) → length (flatMap f l) ≡ total (map (λ x. length (f x)) l)
 unfolding flatMap total
 length-flatMap f [] = refl
@@ -47,6 +47,7 @@ length-flatMap f (x ∷ l) = let ih = length-flatMap f l in omega (arith, length
 
 -- ---- branches
 
+-- a branch leaves an entry with an input
 pub record Branch : Type 0 where
   pub source : Entry
   pub input : ℕ
@@ -91,6 +92,7 @@ unfoldable pub starting : ℕ → ℕ
 starting zero = 1
 starting (suc l) = 0
 
+-- it is there at level 0 alone, once
 length-roots : (l : ℕ) → length (roots l) ≡ starting l
 unfolding roots starting
 length-roots zero = refl
@@ -115,6 +117,7 @@ roots-unique (suc l) = tt
 abbrev gone : Trellis → Branch → List Path
 gone t f = map (λ p. f .input ∷ p) (sharing t (f .source))
 
+-- where such a path comes from
 record Gone (t : Trellis) (f : Branch) (p : Path) : Type 0 where
   rest : Path
   there : Ends t (f .source .node) rest
@@ -146,6 +149,7 @@ module _ {t : Trellis} {e : Entry} {fs : List Branch} (known : Priced t e) (L : 
       let x : e .node ≡ origin = reached-origin l (record { path = known .path; there = known .there }) in
       entry-path (cost-unique (subst (λ (y : Node). Cost t y (e .cost)) x known) (cost-origin t)) x
 
+  -- the root and the paths gone on are all least paths
   all-least : LeastPaths t (e .node) (e .cost) (roots (e .node .level) ++ flatMap (gone t) fs)
   unfolding ends along
   all-least = record {
@@ -158,7 +162,8 @@ module _ {t : Trellis} {e : Entry} {fs : List Branch} (known : Priced t e) (L : 
   }
     where
       gone-unique : (f : Branch) → Unique (gone t f)
-      gone-unique f = map-unique (λ p. f .input ∷ p) (sharing t (f .source)) (λ p q m n e. cc (e)) (leastPaths t (f .source .node) (f .source .cost) .once)
+      gone-unique f =
+          map-unique (λ p. f .input ∷ p) (sharing t (f .source)) (λ p q m n e. cc (e)) (leastPaths t (f .source .node) (f .source .cost) .once)
 
       apart : (p : Path) → p ≡ [] → FlatMapped (gone t) fs p → ⊥
       apart p q r =
@@ -173,8 +178,8 @@ module _ {t : Trellis} {e : Entry} {fs : List Branch} (known : Priced t e) (L : 
       there′ p (inr m) =
           let r = flatMap-out (gone t) fs m in
           let g = gone-out t (r .source) (r .inner) in
-          subst (Ends t (e .node)) (sym (g .equal))
-          (extend (g .there) (record { fits = L .fits (r .source) (r .member); leads = ap (λ (u : Entry). u .node) (sym (L .lands-there (r .source) (r .member))) }))
+          let leads : e .node ≡ lands t (r .source) .node = ap (λ (u : Entry). u .node) (sym (L .lands-there (r .source) (r .member))) in
+          subst (Ends t (e .node)) (sym (g .equal)) (extend (g .there) (record { fits = L .fits (r .source) (r .member); leads = leads }))
 
       paid′ : (p : Path) → (p ∈ roots (e .node .level)) ⊎ (p ∈ flatMap (gone t) fs) → metric t p ≡ e .cost
       paid′ p (inl m) = let r = roots-out (e .node .level) p m in ap (metric t) (r .1) ∙ sym (ap (λ (u : Entry). u .cost) (root (r .0)))
@@ -191,7 +196,8 @@ module _ {t : Trellis} {e : Entry} {fs : List Branch} (known : Priced t e) (L : 
           let own : cost t (endNode t q) ≡ metric t q = omega (arith, c, k .least q (ends-rest h), cost-enters known k (ends-last h)) in
           let f : Branch = branch (mark t q) b in
           let m : f ∈ fs = L .full f (subst (λ (u : ℕ). Cost t (endNode t q) u) own k) (ends-last h .fits) (entry-path c (sym (ends-last h .leads))) in
-          append-right (roots (e .node .level)) (flatMap-in (gone t) m (map-in (λ p. b ∷ p) (leastPaths t (endNode t q) (metric t q) .full q (ends-rest h) refl)))
+          append-right (roots (e .node .level))
+          (flatMap-in (gone t) m (map-in (λ p. b ∷ p) (leastPaths t (endNode t q) (metric t q) .full q (ends-rest h) refl)))
 
   -- as many least paths as the sources of its least branches have together
   pub sharing-total : shared t e ≡ starting (e .node .level) + total (map (λ f. shared t (f .source)) fs)
@@ -205,5 +211,6 @@ module _ {t : Trellis} {e : Entry} {fs : List Branch} (known : Priced t e) (L : 
       map-same (f ∷ l) = ap₂ (λ (n : ℕ) (ns : List ℕ). n ∷ ns) (length-map (sharing t (f .source)) (λ p. f .input ∷ p)) (map-same l)
 
   -- and the same stopped at a cap, each number and the sum
-  pub sharing-stopped : (cap : ℕ) → min cap (shared t e) ≡ min cap (starting (e .node .level) + stopped cap (map (λ f. min cap (shared t (f .source))) fs))
+  pub sharing-stopped : (cap : ℕ)
+      → min cap (shared t e) ≡ min cap (starting (e .node .level) + stopped cap (map (λ f. min cap (shared t (f .source))) fs))
   sharing-stopped cap = omega (arith, sharing-total, stopped-total cap (λ f. shared t (f .source)) fs)

@@ -18,10 +18,11 @@ use Rattle.trellis.specs.Lawful.{Allowed, start, step, Lawful}
 use Rattle.trellis.proofs.Paths.{Ends, ends-here, node-path}
 use Rattle.trellis.proofs.Cost.{Cost, cost-is, cost-origin}
 use Rattle.trellis.proofs.Recurrence.{Enters, extend, metric-extend, cost-enters}
+use Rattle.trellis.proofs.Order.{mark}
 use Rattle.trellis.proofs.Ranked.{Priced}
 use Rattle.trellis.proofs.Messages.{Least, leastMessages-out, pathOf-ends, leastMetric-cost, leastMessages-paths}
 use Rattle.trellis.proofs.Honest.{Honest, honest-is}
-use Rattle.trellis.proofs.SheetTests.{arrival, AllBranches, Onward, Dearer, Clear, Carries, carries-test}
+use Rattle.trellis.proofs.SheetTests.{AllBranches, Onward, Dearer, Clear, Carries, carries-test}
 use Rattle.trellis.proofs.Parts.{parts, parts-metric, parts-allowed}
 
 -- ---- rivals
@@ -34,8 +35,14 @@ record Exchanged (t : Trellis) (own p q : Path) : Type 0 where
   back : path ≡ own → q ≡ p
 
 module _ {t : Trellis} {p q : Path} (rival : Ends t (endNode t p) q) where
+  -- the whole path exchanged, and then any part of it
   exchange-whole : (own : Path) → p ≡ own → Exchanged t own p q
-  exchange-whole own e = record { path = q; there = subst (λ (x : Path). Ends t (endNode t x) q) e rival; paid = rw e (omega arith); back = (λ k. k ∙ sym e) }
+  exchange-whole own e = record {
+    path = q;
+    there = subst (λ (x : Path). Ends t (endNode t x) q) e rival;
+    paid = rw e (omega arith);
+    back = (λ k. k ∙ sym e);
+  }
 
   exchange : {own : Path} → Allowed t own → p ∈ parts own → Exchanged t own p q
   unfolding ends along
@@ -52,7 +59,8 @@ module _ {t : Trellis} {p q : Path} (rival : Ends t (endNode t p) q) where
 
 -- ---- one path alone
 
-module _ {t : Trellis} {own : Path} (al : Allowed t own) (alone : (q : Path) → Ends t (endNode t own) q → metric t q ≤ metric t own → q ≡ own) where
+module _ {t : Trellis} {own : Path} (al : Allowed t own)
+    (alone : (q : Path) → Ends t (endNode t own) q → metric t q ≤ metric t own → q ≡ own) where
   -- its parts are alone too
   alone-part : (p q : Path) → p ∈ parts own → Ends t (endNode t p) q → metric t q ≤ metric t p → q ≡ p
   alone-part p q part rival h =
@@ -61,7 +69,12 @@ module _ {t : Trellis} {own : Path} (al : Allowed t own) (alone : (q : Path) →
 
   -- and their metrics are costs
   cost-part : (p : Path) → p ∈ parts own → Cost t (endNode t p) (metric t p)
-  cost-part p part = record { path = p; there = ends-here (parts-allowed al part); paid = refl; least = (λ q h. go q h (decLt (metric t q) (metric t p))) }
+  cost-part p part = record {
+    path = p;
+    there = ends-here (parts-allowed al part);
+    paid = refl;
+    least = (λ q h. go q h (decLt (metric t q) (metric t p)));
+  }
     where
       go : (q : Path) → Ends t (endNode t p) q → Dec (metric t q < metric t p) → metric t p ≤ metric t q
       go q h (no n) = omega arith
@@ -69,8 +82,8 @@ module _ {t : Trellis} {own : Path} (al : Allowed t own) (alone : (q : Path) →
 
   module _ {sheet : List Entry} (own-sheet : Honest t (metric t own) sheet) where
     -- C
-    listed : (p : Path) → p ∈ parts own → arrival t p ∈ sheet
-    listed p part = own-sheet .all (arrival t p) (record { priced = cost-part p part; within = parts-metric t own part })
+    listed : (p : Path) → p ∈ parts own → mark t p ∈ sheet
+    listed p part = own-sheet .all (mark t p) (record { priced = cost-part p part; within = parts-metric t own part })
 
     -- D: a branch as cheap as the path's own would make a rival of its last part
     dearer : (a : ℕ) (p : Path) → (a ∷ p) ∈ parts own → AllBranches t sheet (Dearer t a p)
@@ -79,12 +92,14 @@ module _ {t : Trellis} {own : Path} (al : Allowed t own) (alone : (q : Path) →
         go : Priced t e → Dec (metric t (a ∷ p) < onto t e b .cost) → metric t (a ∷ p) < onto t e b .cost
         go c (yes h) = h
         go c (no h) =
+            let rival : Ends t (endNode t (a ∷ p)) (b ∷ c .path) = extend (c .there) (record { fits = u; leads = sym enters }) in
             let k : (b ∷ c .path) ≡ (a ∷ p) =
-            alone-part (a ∷ p) (b ∷ c .path) part (extend (c .there) (record { fits = u; leads = sym enters })) (omega (arith, metric-extend b (c .there), c .paid)) in
+            alone-part (a ∷ p) (b ∷ c .path) part rival (omega (arith, metric-extend b (c .there), c .paid)) in
             let early : c .path ≡ p = cc in
             let latest : b ≡ a = cc in
             absurd (apart (sym (c .there .state) ∙ ap (ends t) early, latest))
 
+    -- D, at every node of the path
     clear : (p : Path) → p ∈ parts own → Clear t sheet p
     clear [] part = tt
     clear (a ∷ p) part = dearer a p part
@@ -98,8 +113,15 @@ module _ {t : Trellis} {own : Path} (al : Allowed t own) (alone : (q : Path) →
         let low : cost t x ≤ onto t e b .cost = cost-enters c (own-sheet .only e member .priced) enters in
         record { cost = cost t x; here = own-sheet .all (priced t x) (record { priced = c; within = omega arith }); small = low }
 
+    -- A to D together
     pub honest-carries : Carries t (metric t own) sheet own
-    honest-carries = record { begun = own-sheet .all (entry 0 0 0) (record { priced = cost-origin t; within = omega arith }); onward = onward; listed = listed; paid = refl; clear = clear }
+    honest-carries = record {
+      begun = own-sheet .all (entry 0 0 0) (record { priced = cost-origin t; within = omega arith });
+      onward = onward;
+      listed = listed;
+      paid = refl;
+      clear = clear;
+    }
 
 -- ---- messages
 
@@ -108,6 +130,7 @@ module _ {t : Trellis} (law : Lawful t) {w : List ℕ} (one : leastMessages t �
   least-one : Least t w
   least-one = leastMessages-out t (subst (λ (l : List (List ℕ)). w ∈ l) (sym one) (here refl))
 
+  -- its path ends in the terminal
   there : Ends t (terminal t) (pathOf t w)
   there = pathOf-ends law (least-one .member)
 

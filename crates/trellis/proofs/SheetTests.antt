@@ -9,12 +9,13 @@ use Prim.Native.Nat.{ℕ, _≤_, _<_}
 use native.Mathlib.Omega.{arith}
 use Rattle.lists.specs.Lists.{_∈_, below}
 use Rattle.lists.proofs.Membership.{here, further, nil-out, member-cast, Every, every-cons, below-in, below-out}
+use Rattle.lists.proofs.Decides.{Decides, said, both, either, whenever, each, some, equal, less, atMost}
 use Rattle.trellis.specs.Trellis.{Trellis, Path, Node, same, allowed, ends, along, metric, endNode}
 use Rattle.trellis.specs.Verdict.{Entry, entry}
 use Rattle.trellis.specs.Sheet.{listedAs, listedWithin, onto, allBranches, conditionA, conditionB, conditionC, conditionD, carries}
 use Rattle.trellis.proofs.Paths.{node-path}
-use Rattle.trellis.proofs.Order.{entry-path}
-use Rattle.lists.proofs.Decides.{Decides, said, both, either, whenever, each, some, equal, less, atMost}
+use Rattle.trellis.proofs.Order.{entry-path, mark}
+pub use Rattle.trellis.proofs.Order.{mark as arrival}
 use Rattle.trellis.proofs.Parts.{parts}
 
 -- ---- being listed
@@ -38,6 +39,7 @@ pub record Listed (sheet : List Entry) (x : Node) (c : ℕ) : Type 0 where
   pub here : record { cost = cost; node = x } ∈ sheet
   pub small : cost ≤ c
 
+-- so its test says
 pub listedWithin-test : (sheet : List Entry) (x : Node) (c : ℕ) → Decides (listedWithin sheet x c) (Listed sheet x c)
 unfolding listedWithin
 listedWithin-test sheet x c =
@@ -47,14 +49,11 @@ listedWithin-test sheet x c =
 
 -- ---- the parts of a path
 
--- the node where a path ends, with its metric
-abbrev pub arrival : Trellis → Path → Entry
-arrival t p = record { cost = metric t p; node = endNode t p }
-
 -- for C and D, which go through the parts one by one
 first-part : (Q : Path → Type 0) {test : Bool} → Decides test (Q []) → Decides test (Every Q (parts []))
 first-part Q d = said d (λ h. every-cons Q h (λ p m. absurd (nil-out m))) (λ h. h [] (here refl))
 
+-- one part more
 more-parts : (Q : Path → Type 0) {a : ℕ} {p : Path} {test tests : Bool} → Decides test (Q (a ∷ p)) → Decides tests (Every Q (parts p))
     → Decides (test && tests) (Every Q (parts (a ∷ p)))
 more-parts Q {a} {p} d e = said (both d e) (λ h. every-cons Q (h .0) (h .1)) (λ h. (h (a ∷ p) (here refl), λ q m. h q (further m)))
@@ -85,7 +84,7 @@ pub record Carries (t : Trellis) (m : ℕ) (sheet : List Entry) (own : Path) : T
   -- B
   pub onward : AllBranches t sheet (Onward t m sheet)
   -- C
-  pub listed : Every (λ p. arrival t p ∈ sheet) (parts own)
+  pub listed : Every (λ p. mark t p ∈ sheet) (parts own)
   pub paid : metric t own ≡ m
   -- D
   pub clear : Every (Clear t sheet) (parts own)
@@ -110,10 +109,10 @@ conditionB-test t m sheet =
     (λ h l. h (λ k. omega arith)) (λ h n. h (omega arith)))
 
 -- C: the message's own path is in the sheet, with its metrics
-pub conditionC-test : (t : Trellis) (sheet : List Entry) (own : Path) → Decides (conditionC t sheet own) (Every (λ p. arrival t p ∈ sheet) (parts own))
+pub conditionC-test : (t : Trellis) (sheet : List Entry) (own : Path) → Decides (conditionC t sheet own) (Every (λ p. mark t p ∈ sheet) (parts own))
 unfolding conditionC ends along
-conditionC-test t sheet [] = first-part (λ p. arrival t p ∈ sheet) (listedAs-test sheet (entry 0 0 0))
-conditionC-test t sheet (a ∷ p) = more-parts (λ p. arrival t p ∈ sheet) (listedAs-test sheet (arrival t (a ∷ p))) (conditionC-test t sheet p)
+conditionC-test t sheet [] = first-part (λ p. mark t p ∈ sheet) (listedAs-test sheet (entry 0 0 0))
+conditionC-test t sheet (a ∷ p) = more-parts (λ p. mark t p ∈ sheet) (listedAs-test sheet (mark t (a ∷ p))) (conditionC-test t sheet p)
 
 -- D: no entry leads into that path as cheaply
 pub conditionD-test : (t : Trellis) (sheet : List Entry) (own : Path) → Decides (conditionD t sheet own) (Every (Clear t sheet) (parts own))
@@ -122,13 +121,16 @@ conditionD-test t sheet [] = first-part (Clear t sheet) (record { out = (λ h. t
 conditionD-test t sheet (a ∷ p) =
     more-parts (Clear t sheet)
     (branches-test t sheet (λ e b.
-    whenever (same-test (onto t e b .node) (endNode t (a ∷ p))) (both (equal (e .node .state) (ends t p)) (equal b a)) (less (metric t (a ∷ p)) (onto t e b .cost))))
+    whenever (same-test (onto t e b .node) (endNode t (a ∷ p))) (both (equal (e .node .state) (ends t p)) (equal b a))
+    (less (metric t (a ∷ p)) (onto t e b .cost))))
     (conditionD-test t sheet p)
 
 -- for the check: what its answer yes says, and what it must find for it
 pub carries-test : (t : Trellis) (m : ℕ) (sheet : List Entry) (own : Path) → Decides (carries t m sheet own) (Carries t m sheet own)
 unfolding carries
 carries-test t m sheet own =
-    said (both (both (both (conditionA-test sheet) (conditionB-test t m sheet)) (both (conditionC-test t sheet own) (equal (metric t own) m))) (conditionD-test t sheet own))
+    said
+    (both (both (both (conditionA-test sheet) (conditionB-test t m sheet)) (both (conditionC-test t sheet own) (equal (metric t own) m)))
+    (conditionD-test t sheet own))
     (λ h. record { begun = h .0 .0 .0; onward = h .0 .0 .1; listed = h .0 .1 .0; paid = h .0 .1 .1; clear = h .1 })
     (λ k. (((k .begun, k .onward), (k .listed, k .paid)), k .clear))

@@ -7,7 +7,7 @@ use mathlib.Core.List.{List, [], _∷_, _++_}
 use Prim.Native.Nat.{ℕ, zero, suc, _≤_, _<_}
 use native.Mathlib.Omega.{arith}
 use lib.Dec.{T}
-use lib.ListN.{length, take}
+use lib.ListN.{take}
 use Rattle.lists.specs.Lists.{_∈_}
 use Rattle.lists.proofs.Membership.{here, further, nil-out, member-cast, eq-or-lt}
 use Rattle.lists.proofs.Sorted.{Sorted}
@@ -18,7 +18,7 @@ use Rattle.trellis.specs.Lawful.{Allowed, start, step}
 use Rattle.trellis.proofs.Paths.{Ends, ends-here, node-path}
 use Rattle.trellis.proofs.Cost.{Cost, cost-is, cost-computed}
 use Rattle.trellis.proofs.Recurrence.{extend, metric-extend}
-use Rattle.trellis.proofs.Order.{Before, before-in, before-out, before-order, entry-path, onto-later}
+use Rattle.trellis.proofs.Order.{Before, before-in, before-out, before-order, entry-path, mark, onto-later}
 use Rattle.trellis.proofs.Ranked.{Priced, ranked-in, ranked-out, ranked-sorted}
 
 -- ---- the order, with equality
@@ -32,6 +32,7 @@ pub at-most-before : (x y z : Entry) → AtMost x y → T (before y z) → T (be
 at-most-before x y z (inl e) h = subst (λ (u : Entry). T (before u z)) (sym e) h
 at-most-before x y z (inr g) h = before-order .trans x y z g h
 
+-- so it costs no more
 at-most-cost : (x y : Entry) → AtMost x y → x .cost ≤ y .cost
 at-most-cost x y (inl e) = let h : x .cost ≡ y .cost = ap (λ (u : Entry). u .cost) e in omega arith
 at-most-cost x y (inr h) = go (before-out x y h)
@@ -49,7 +50,8 @@ at-most-dearer x y c h k = go (eq-or-lt (y .cost) c (omega arith))
     go (inr l) = inr (at-most-before x y (record { cost = c; node = y .node }) h (before-in y (record { cost = c; node = y .node }) (inl l)))
 
 -- the node that is in no front yet and before which nothing else is, is the next
-sorted-next : (l : List Entry) (j : ℕ) (z : Entry) → Sorted before l → z ∈ l → (z ∈ take j l → ⊥) → ((e : Entry) → e ∈ l → (e ∈ take j l) ⊎ AtMost z e)
+sorted-next : (l : List Entry) (j : ℕ) (z : Entry) → Sorted before l → z ∈ l → (z ∈ take j l → ⊥)
+    → ((e : Entry) → e ∈ l → (e ∈ take j l) ⊎ AtMost z e)
     → take (suc j) l ≡ take j l ++ (z ∷ [])
 sorted-next (y ∷ l) zero z s m new f = ap (λ (u : Entry). u ∷ []) (go m (f y (here refl)))
   where
@@ -71,10 +73,6 @@ sorted-next (y ∷ l) (suc j) z s m new f =
     others e k (inr h) = inr h
 
 -- ---- closed and open nodes
-
--- where a path ends, with what it costs
-abbrev pub mark : Trellis → Path → Entry
-mark t p = entry (metric t p) (length p) (ends t p)
 
 -- the node is among the first j ranked ones
 abbrev pub Closed : Trellis → ℕ → Node → Type 0
@@ -104,7 +102,8 @@ pub record Frontier (t : Trellis) (j : ℕ) (Open : Entry → Type 0) : Type 0 w
   pub apart : (e : Entry) → Open e → Closed t j (e .node) → ⊥
 
 -- without an open node every path would end at a closed one
-pub all-closed : {t : Trellis} {j : ℕ} {Open : Entry → Type 0} → Frontier t j Open → ((e : Entry) → Open e → ⊥) → {p : Path} → Allowed t p → Closed t j (endNode t p)
+pub all-closed : {t : Trellis} {j : ℕ} {Open : Entry → Type 0} → Frontier t j Open → ((e : Entry) → Open e → ⊥)
+    → {p : Path} → Allowed t p → Closed t j (endNode t p)
 unfolding ends
 all-closed {t} {j} {Open} F none start = go (F .start)
   where
@@ -125,7 +124,8 @@ attains-onto {b = b} u h = record { there = extend (h .there) (record { fits = u
 
 -- ---- the step
 
-module _ {t : Trellis} {j : ℕ} {Open : Entry → Type 0} (F : Frontier t j Open) (z : Entry) (zin : Open z) (zmin : (e : Entry) → Open e → AtMost z e) where
+module _ {t : Trellis} {j : ℕ} {Open : Entry → Type 0} (F : Frontier t j Open)
+    (z : Entry) (zin : Open z) (zmin : (e : Entry) → Open e → AtMost z e) where
   -- every path ends at a closed node, or not before z
   pub frontier : {p : Path} → Allowed t p → Closed t j (endNode t p) ⊎ AtMost z (mark t p)
   unfolding ends along
@@ -139,9 +139,12 @@ module _ {t : Trellis} {j : ℕ} {Open : Entry → Type 0} (F : Frontier t j Ope
       x : Node
       x = endNode t (b ∷ p)
 
-      onward : cost t (endNode t p) ≤ metric t p → Closed t j x ⊎ Offered Open (onto t (priced t (endNode t p)) b) → Closed t j x ⊎ AtMost z (mark t (b ∷ p))
+      onward : cost t (endNode t p) ≤ metric t p → Closed t j x ⊎ Offered Open (onto t (priced t (endNode t p)) b)
+          → Closed t j x ⊎ AtMost z (mark t (b ∷ p))
       onward h (inl k) = inl k
-      onward h (inr o) = inr (at-most-dearer z (record { cost = o .cost; node = x }) (metric t (b ∷ p)) (zmin (record { cost = o .cost; node = x }) (o .here)) (omega (arith, o .small)))
+      onward h (inr o) =
+          let e : Entry = record { cost = o .cost; node = x } in
+          inr (at-most-dearer z e (metric t (b ∷ p)) (zmin e (o .here)) (omega (arith, o .small)))
 
       go : Closed t j (endNode t p) ⊎ AtMost z (mark t p) → Closed t j x ⊎ AtMost z (mark t (b ∷ p))
       go (inl k) = onward (cost-is (ends-here al) .least p (ends-here al)) (F .front (priced t (endNode t p)) b k u)

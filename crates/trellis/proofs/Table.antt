@@ -3,7 +3,7 @@
 use mathlib.Core.Path.{_≡_, sym, ap, _∙_, subst}
 use mathlib.Core.Logic.{_⊎_, inl, inr}
 use mathlib.Core.List.{List, [], _∷_, map}
-use mathlib.Core.Bool.{Bool, true, false, _&&_}
+use mathlib.Core.Bool.{Bool, true, false, _&&_, true≢false}
 use Prim.Native.Nat.{ℕ, _+_, _≤_, _<_, min}
 use native.Mathlib.Decide.{ℕ-discrete, decLt}
 use native.Mathlib.Omega.{arith}
@@ -22,7 +22,7 @@ use Rattle.trellis.proofs.Paths.{same-equality}
 use Rattle.trellis.proofs.Order.{entry-path}
 use Rattle.trellis.proofs.Step.{Closed}
 use Rattle.trellis.proofs.Sharing.{Branch, lands, Fits, shared, starting, total}
-use Rattle.trellis.proofs.Rows.{true-false, Changed}
+use Rattle.trellis.proofs.Rows.{Changed}
 
 -- ---- branches that arrive
 
@@ -56,7 +56,8 @@ module _ (t : Trellis) (taken : List Branch) (e : Entry) where
   unfolding ways total
   ways-none none =
       let l : arriving t taken e ≡ [] = keep-none (λ f. alike (lands t f) e) taken (λ f m h. none f m (alike-equality .sound (lands t f) e h)) in
-      let n : total (map (λ (f : Branch). shared t (f .source)) (arriving t taken e)) ≡ 0 = ap (λ (k : List Branch). total (map (λ f. shared t (f .source)) k)) l in
+      let n : total (map (λ (f : Branch). shared t (f .source)) (arriving t taken e)) ≡ 0 =
+      ap (λ (k : List Branch). total (map (λ f. shared t (f .source)) k)) l in
       omega arith
 
   module _ (g : Branch) where
@@ -142,6 +143,7 @@ pub record Arrives (t : Trellis) (cap : ℕ) (taken : List Branch) (rows : List 
   pub known : k < length rows → Survives (rowAt rows k) r
   pub fresh : length rows ≤ k → r .closed ≡ false
 
+-- a row that is not changed
 survives-same : (r s : Row) → s ≡ r → Survives r s
 survives-same r s e = record {
   node = ap (λ (u : Row). u .entry .node) e;
@@ -157,9 +159,12 @@ module _ {t : Trellis} {cap j : ℕ} {taken : List Branch} {rows after : List Ro
   survives i h = go (ℕ-discrete i k)
     where
       go : Dec (i ≡ k) → Survives (rowAt rows i) (rowAt after i)
-      go (yes e) = subst (λ (u : ℕ). Survives (rowAt rows u) (rowAt after u)) (sym e) (subst (λ (u : Row). Survives (rowAt rows k) u) (sym (C .here)) (A .known (rw (sym e) h)))
+      go (yes e) =
+          subst (λ (u : ℕ). Survives (rowAt rows u) (rowAt after u)) (sym e)
+          (subst (λ (u : Row). Survives (rowAt rows k) u) (sym (C .here)) (A .known (rw (sym e) h)))
       go (no d) = survives-same (rowAt rows i) (rowAt after i) (C .others i (omega (arith, C .longer)) d)
 
+  -- where a row came from is still there
   link-more : (s : Row) → Link t rows s → Link t after s
   link-more s l =
       let v : Survives (rowAt rows (s .parent)) (rowAt after (s .parent)) = survives (s .parent) (l .within) in
@@ -181,6 +186,7 @@ module _ {t : Trellis} {cap j : ℕ} {taken : List Branch} {rows after : List Ro
     equal : rowAt after i ≡ rowAt rows i
     apart : i ≡ k → ⊥
 
+  -- it is one or the other
   view : (i : ℕ) → i < length after → New i ⊎ Old i
   view i h = go (ℕ-discrete i k)
     where
@@ -209,7 +215,12 @@ module _ {t : Trellis} {cap j : ℕ} {taken : List Branch} {rows after : List Ro
       first′ : New 0 ⊎ Old 0 → entryAt after 0 ≡ entry 0 0 0
       first′ (inl n) =
           let v : nodeAt after 0 .level ≡ nodeAt rows 0 .level = ap (λ (u : Node). u .level) (survives 0 (B .some) .node) in
-          absurd (omega (arith, ap (λ (u : Entry). u .node .level) (B .first), ap (λ (u : Row). u .entry .node .level) (n .equal), ap (λ (u : Node). u .level) (A .node)))
+          absurd (omega (
+            arith,
+            ap (λ (u : Entry). u .node .level) (B .first),
+            ap (λ (u : Row). u .entry .node .level) (n .equal),
+            ap (λ (u : Node). u .level) (A .node),
+          ))
       first′ (inr o) = ap (λ (u : Row). u .entry) (o .equal) ∙ B .first
 
       linked′ : (i : ℕ) → 0 < i → New i ⊎ Old i → Link t after (rowAt after i)
@@ -224,7 +235,7 @@ module _ {t : Trellis} {cap j : ℕ} {taken : List Branch} {rows after : List Ro
 
       again : r .closed ≡ true → Dec (k < length rows) → r .entry ∈ take j (ranked t)
       again c (yes h) = let v = A .known h in let o : rowAt rows k .closed ≡ true = sym (v .closed) ∙ c in member-cast (v .exact o) (B .shut k h o)
-      again c (no h) = absurd (true-false (sym c ∙ A .fresh (omega arith)))
+      again c (no h) = absurd (true≢false (sym c ∙ A .fresh (omega arith)))
 
       shut′ : (i : ℕ) → rowAt after i .closed ≡ true → New i ⊎ Old i → entryAt after i ∈ take j (ranked t)
       shut′ i c (inl n) = member-cast (ap (λ (u : Row). u .entry) (n .equal)) (again (cc (c, n .equal)) (decLt k (length rows)))

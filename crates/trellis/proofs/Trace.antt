@@ -2,14 +2,14 @@
 -- Assumes nothing.
 use mathlib.Core.Path.{_≡_, refl, sym, ap, _∙_, subst}
 use mathlib.Core.List.{List, [], _∷_}
-use Prim.Native.Nat.{ℕ, zero, suc, _≤_, _<_}
+use Prim.Native.Nat.{ℕ, zero, suc, _<_}
 use native.Mathlib.Omega.{arith}
 use lib.ListN.{length}
-use Rattle.trellis.specs.Trellis.{Trellis, top, ends, along}
+use Rattle.trellis.specs.Trellis.{Trellis, ends, along}
 use Rattle.trellis.specs.Verdict.{Entry}
 use Rattle.trellis.specs.Lawful.{start}
 use Rattle.trellis.specs.Search.{Row, rowAt, entryAt, nodeAt, trace}
-use Rattle.trellis.proofs.Paths.{ends-here, path-short}
+use Rattle.trellis.proofs.Paths.{ends-here}
 use Rattle.trellis.proofs.Step.{Attains, Attained, attains-onto}
 use Rattle.trellis.proofs.Sharing.{Branch}
 use Rattle.trellis.proofs.Table.{Link, Table}
@@ -51,7 +51,3 @@ module _ {t : Trellis} {cap j : ℕ} {taken : List Branch} {rows : List Row} (B 
   -- so a bound on the nodes that paths reach bounds the rows' levels and states, and a bound on metrics the rows' costs
   pub row-attained : (i : ℕ) → i < length rows → Attained t (entryAt rows i)
   row-attained i h = record { path = trace rows (nodeAt rows i .level) i; attains = trace-attains (nodeAt rows i .level) i h refl }
-
-  -- no row stands above the top
-  pub row-level : (i : ℕ) → i < length rows → nodeAt rows i .level ≤ top t
-  row-level i h = let r = row-attained i h .attains .there in omega (arith, path-short (r .allowed), r .level)

@@ -6,17 +6,19 @@ use native.Mathlib.Omega.{arith}
 use borrow.Author.Tests.{lt-ltb, le-ltb}
 use Rattle.trellis.specs.Trellis.{Trellis}
 use Rattle.trellis.specs.Verdict.{steps, met, decided, leastMessages, verdict, roomShort, allowanceSpent}
-use Rattle.trellis.proofs.MetNodes.{met-mono, met-some, lastFit-is, lastFit-none}
+use Rattle.trellis.proofs.MetNodes.{met-mono, met-some}
+use Rattle.trellis.proofs.LastFit.{lastFit-is, lastFit-none}
 
 -- not even the origin has room
 pub verdict-none : (t : Trellis) (allowance : ℕ) → verdict t 0 allowance ≡ roomShort 0
 unfolding verdict
 verdict-none t allowance =
     rw (lt-ltb 0 (met t (min (steps t) allowance)) (met-some t (min (steps t) allowance)))
-    (ap roomShort (lastFit-none t 0 (min (steps t) allowance) (met-some t 0)))
+    (ap roomShort (lastFit-none t 0 (min (steps t) allowance) (λ j h. omega (arith, met-some t j))))
 
 -- j steps fit, the next one is wanted and does not
-pub verdict-full : (t : Trellis) (room allowance j : ℕ) → j < steps t → j < allowance → met t j ≤ room → room < met t (suc j) → verdict t room allowance ≡ roomShort j
+pub verdict-full : (t : Trellis) (room allowance j : ℕ) → j < steps t → j < allowance → met t j ≤ room → room < met t (suc j)
+    → verdict t room allowance ≡ roomShort j
 unfolding verdict
 verdict-full t room allowance j h k p q =
     rw (lt-ltb room (met t (min (steps t) allowance)) (omega (arith, met-mono t (suc j) (min (steps t) allowance) (omega arith))))

@@ -67,7 +67,9 @@ unfoldable pub nextClosed : Node → List Row → ℕ
 nextClosed x [] = 0
 nextClosed x (r ∷ rows) =
     let rest : ℕ = nextClosed x rows in
-    cond (r .closed && earlier x (r .entry .node)) (cond (ltb rest (length rows) && earlier (nodeAt rows rest) (r .entry .node)) (suc rest) 0) (suc rest)
+    cond (r .closed && earlier x (r .entry .node))
+    (cond (ltb rest (length rows) && earlier (nodeAt rows rest) (r .entry .node)) (suc rest) 0)
+    (suc rest)
 
 -- a row at the end
 abbrev pub added : List Row → Row → List Row
@@ -134,6 +136,7 @@ expand t cap room i rows = fan t cap room i (allowed t (nodeAt rows i .level)) 0
 
 -- ---- the run
 
+-- the three ways in which the search ends
 pub data Outcome : Type 0 where
   -- the terminal is first: its cost, the steps, how many least paths it has up to the cap, its row
   found : (metric steps count row : ℕ) → Outcome
@@ -177,7 +180,8 @@ trace rows (suc level) i = rowAt rows i .input ∷ trace rows level (rowAt rows 
 
 -- an outcome as a verdict: one least path is an answer, more are a tie
 unfoldable pub read : Trellis → List Row → Outcome → Verdict
-read t rows (found metric steps count row) = cond (leb count 1) (answered (messageOf t (trace rows (top t) row)) metric steps) (tied metric steps)
+read t rows (found metric steps count row) =
+    cond (leb count 1) (answered (messageOf t (trace rows (top t) row)) metric steps) (tied metric steps)
 read t rows (full steps) = roomShort steps
 read t rows (spent steps) = allowanceSpent steps
 
