@@ -1,12 +1,12 @@
 -- A computed test decides a statement: how tests put together by 'and', 'or', all and any decide what they are read as.
 -- One proof then gives both directions, in and out. Assumes nothing.
-use mathlib.Core.Path.{_≡_, subst}
+use mathlib.Core.Path.{_≡_, sym, subst}
 use mathlib.Core.List.{List}
 use mathlib.Core.Bool.{Bool, true, false, not, _&&_, _||_}
 use Prim.Native.Nat.{ℕ, _≤_, _<_}
 use lib.Dec.{T, eqb, ltb, leb, eqb→eq, eqb-refl, ltb→lt, lt→ltb, leb→le, le→leb}
 use Rattle.lists.specs.Lists.{_∈_, all, any}
-use Rattle.lists.proofs.Tests.{and-in, and-out}
+use Rattle.lists.proofs.Tests.{and-in, and-out, true-out, false-out}
 use Rattle.lists.proofs.Membership.{Every, all-in, all-out, any-in, any-out}
 
 -- the test passes exactly if the statement holds
@@ -17,6 +17,11 @@ pub record Decides (test : Bool) (P : Type 0) : Type 0 where
 -- for a statement that reads better: the same, said otherwise
 pub said : {a : Bool} {P Q : Type 0} → Decides a P → (P → Q) → (Q → P) → Decides a Q
 said d f g = record { out = (λ h. f (d .out h)); into = (λ q. d .into (g q)) }
+
+-- for a program's test in the place of a definition's: two tests of one statement are the same
+pub agree : {a b : Bool} {P : Type 0} → Decides a P → Decides b P → a ≡ b
+agree {a = true} {b = b} d e = sym (true-out b (e .into (d .out tt)))
+agree {a = false} {b = b} d e = sym (false-out b (λ h. d .into (e .out h)))
 
 -- for 'and': one statement and the other
 pub both : {a b : Bool} {P Q : Type 0} → Decides a P → Decides b Q → Decides (a && b) (P × Q)

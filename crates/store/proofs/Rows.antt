@@ -15,6 +15,7 @@ use Rattle.store.proofs.Words.{rowFrom-words}
 
 -- ---- the memory as it is
 
+-- the row that the words at an index hold
 abbrev pub rowIn : List ℕ → ℕ → Row
 rowIn work i = rowFrom (orderAt work i) (restAt work i)
 
@@ -47,6 +48,7 @@ module _ (work : List ℕ) (i : ℕ) (r : Held) where
   abbrev half : List ℕ
   half = set work (3 * i) (orderWord r)
 
+  -- the length stays, the row is the one written, and no other changes
   length-written : length (written work i r) ≡ length work
   length-written = simp length-set
 

@@ -24,6 +24,7 @@ abbrev from : List ℕ → ℕ → ℕ → List Row
 from work n i = drop i (rowsOf work n)
 
 module _ (work : List ℕ) (n i : ℕ) where
+  -- row i and those behind it, or none
   from-next : i < n → from work n i ≡ rowIn work i ∷ from work n (suc i)
   from-next h = rw (drop-cons (rowsOf work n) i noRow (omega (arith, length-rowsOf work n)), rowAt-rowsOf work n i h)
 
@@ -40,25 +41,32 @@ pub record Finding (work : List ℕ) (n : ℕ) (x : Node) (i : ℕ) : Type 0 whe
   pub within : i ≤ n
   pub left : i + findRow x (from work n i) ≡ findRow x (rowsOf work n)
 
+-- for the loop's start
 pub finding-start : (work : List ℕ) (n : ℕ) (x : Node) → Finding work n x 0
 finding-start work n x = record { within = omega arith; left = omega arith }
 
-module _ {work : List ℕ} {n level state i : ℕ} (f : Finding work n (node level state) i) (more : i < n) (small : (level < 2 ^ 10) × (state < 2 ^ 16)) where
+module _ {work : List ℕ} {n level state i : ℕ}
+    (f : Finding work n (node level state) i) (more : i < n) (small : (level < 2 ^ 10) × (state < 2 ^ 16)) where
   -- the scan ends at row i or goes on behind it, as its order word says
   finding-turn : findRow (node level state) (from work n i)
       ≡ cond (eqb (orderAt work i % nodes) (level * states + state)) 0 (suc (findRow (node level state) (from work n (suc i))))
   unfolding findRow rowFrom
   finding-turn = rw (from-next work n i more, same-words (orderAt work i) level state (small .0) (small .1))
 
+  -- row i is the node's
   pub finding-stop : orderAt work i % nodes ≡ level * states + state → i ≡ findRow (node level state) (rowsOf work n)
   finding-stop e = omega (arith, f .left, rw (eq-eqb _ _ e) at finding-turn)
 
+  -- it is not
   pub finding-next : (orderAt work i % nodes ≡ level * states + state → ⊥) → Finding work n (node level state) (i + 1)
   finding-next d = rw (add-one i) (record { within = omega arith; left = omega (arith, f .left, rw (ne-eqb _ _ d) at finding-turn) })
 
+-- for the loop's end: the node has no row
 pub finding-done : {work : List ℕ} {n : ℕ} {x : Node} {i : ℕ} → Finding work n x i → n ≤ i → n ≡ findRow x (rowsOf work n)
 unfolding findRow
-finding-done {work} {n} {x} {i} f h = let e : findRow x (from work n i) ≡ 0 = ap (findRow x) (from-end work n i h) in omega (arith, f .left, f .within)
+finding-done {work} {n} {x} {i} f h =
+    let e : findRow x (from work n i) ≡ 0 = ap (findRow x) (from-end work n i h) in
+    omega (arith, f .left, f .within)
 
 -- ---- the first open row
 
@@ -73,6 +81,7 @@ pub record Opening (work : List ℕ) (n i best lowest : ℕ) : Type 0 where
   pub seen : best ≡ i + firstOpen (from work n i)
   pub order : lowest ≡ cond (ltb best n) (orderAt work best) largest
 
+-- for the loop's start: no row was seen
 pub opening-start : (work : List ℕ) (n : ℕ) → Opening work n n n largest
 unfolding firstOpen
 opening-start work n = record {
@@ -91,7 +100,9 @@ module _ {work : List ℕ} {n i best lowest : ℕ} (o : Opening work n (suc i) b
       rest : List Row
       rest = from work n (suc i)
 
-      go : Dec (best < n) → (ltb (firstOpen rest) (length rest) && before (rowAt rest (firstOpen rest) .entry) (entryFrom (orderAt work i))) ≡ ltb lowest (orderAt work i)
+      go : Dec (best < n)
+          → (ltb (firstOpen rest) (length rest) && before (rowAt rest (firstOpen rest) .entry) (entryFrom (orderAt work i)))
+          ≡ ltb lowest (orderAt work i)
       go (yes h) =
           let e : lowest ≡ orderAt work best = o .order ∙ rw (lt-ltb best n h) in
           rw (
@@ -139,6 +150,7 @@ module _ {work : List ℕ} {n i best lowest : ℕ} (o : Opening work n (suc i) b
     order = rw (lt-ltb i n (omega (arith, o .within)));
   }
 
+-- for the loop's end: all rows were seen
 pub opening-done : {work : List ℕ} {n best lowest : ℕ} → Opening work n 0 best lowest → best ≡ firstOpen (rowsOf work n)
 opening-done o = omega (arith, o .seen)
 
@@ -155,6 +167,7 @@ pub record Coming (work : List ℕ) (n last i best lowest : ℕ) : Type 0 where
   pub seen : best ≡ i + nextClosed (nodeFrom last) (from work n i)
   pub number : lowest ≡ cond (ltb best n) (orderAt work best % nodes) nodes
 
+-- for the loop's start: no row was seen
 pub coming-start : (work : List ℕ) (n last : ℕ) → Coming work n last n n nodes
 unfolding nextClosed
 coming-start work n last = record {
@@ -166,7 +179,8 @@ coming-start work n last = record {
 module _ {work : List ℕ} {n last i best lowest : ℕ} (o : Coming work n last (suc i) best lowest) where
   -- the row at best is earlier than row i exactly if its number is lower
   coming-test : (let rest : List Row = from work n (suc i) in
-      ltb (nextClosed (nodeFrom last) rest) (length rest) && earlier (nodeAt rest (nextClosed (nodeFrom last) rest)) (nodeFrom (orderAt work i))) ≡ ltb lowest (orderAt work i % nodes)
+      ltb (nextClosed (nodeFrom last) rest) (length rest) && earlier (nodeAt rest (nextClosed (nodeFrom last) rest)) (nodeFrom (orderAt work i)))
+      ≡ ltb lowest (orderAt work i % nodes)
   unfolding rowFrom
   coming-test = go (decLt best n)
     where
@@ -174,11 +188,15 @@ module _ {work : List ℕ} {n last i best lowest : ℕ} (o : Coming work n last 
       rest = from work n (suc i)
 
       go : Dec (best < n)
-          → (ltb (nextClosed (nodeFrom last) rest) (length rest) && earlier (nodeAt rest (nextClosed (nodeFrom last) rest)) (nodeFrom (orderAt work i))) ≡ ltb lowest (orderAt work i % nodes)
+          → (ltb (nextClosed (nodeFrom last) rest) (length rest)
+          && earlier (nodeAt rest (nextClosed (nodeFrom last) rest)) (nodeFrom (orderAt work i)))
+          ≡ ltb lowest (orderAt work i % nodes)
       go (yes h) =
           let e : lowest ≡ orderAt work best % nodes = o .number ∙ rw (lt-ltb best n h) in
           let own : rowAt rest (nextClosed (nodeFrom last) rest) ≡ rowIn work best =
-          getD-drop (suc i) (rowsOf work n) (nextClosed (nodeFrom last) rest) noRow ∙ ap (rowAt (rowsOf work n)) (sym (o .seen)) ∙ rowAt-rowsOf work n best h in
+          getD-drop (suc i) (rowsOf work n) (nextClosed (nodeFrom last) rest) noRow
+          ∙ ap (rowAt (rowsOf work n)) (sym (o .seen))
+          ∙ rowAt-rowsOf work n best h in
           rw (lt-ltb (nextClosed (nodeFrom last) rest) (length rest) (omega (arith, o .seen, length-from work n (suc i))), e)
           (ap (λ (r : Row). earlier (r .entry .node) (nodeFrom (orderAt work i))) own ∙ earlier-words (orderAt work best) (orderAt work i))
       go (no h) =
@@ -197,14 +215,23 @@ module _ {work : List ℕ} {n last i best lowest : ℕ} (o : Coming work n last 
 
   -- row i is open
   pub coming-open : (restAt work i % 2 ≡ 1 → ⊥) → Coming work n last i best lowest
-  coming-open d = record { within = omega (arith, o .within); seen = omega (arith, o .seen, rw (ne-eqb _ _ d) at coming-turn); number = o .number }
+  coming-open d = record {
+    within = omega (arith, o .within);
+    seen = omega (arith, o .seen, rw (ne-eqb _ _ d) at coming-turn);
+    number = o .number;
+  }
 
   -- row i does not come after the node
   pub coming-past : restAt work i % 2 ≡ 1 → orderAt work i % nodes ≤ last % nodes → Coming work n last i best lowest
-  coming-past e h = record { within = omega (arith, o .within); seen = omega (arith, o .seen, rw (eq-eqb _ _ e, le-ltb _ _ h) at coming-turn); number = o .number }
+  coming-past e h = record {
+    within = omega (arith, o .within);
+    seen = omega (arith, o .seen, rw (eq-eqb _ _ e, le-ltb _ _ h) at coming-turn);
+    number = o .number;
+  }
 
   -- row i comes later than the one at best
-  pub coming-later : restAt work i % 2 ≡ 1 → last % nodes < orderAt work i % nodes → lowest < orderAt work i % nodes → Coming work n last i best lowest
+  pub coming-later : restAt work i % 2 ≡ 1 → last % nodes < orderAt work i % nodes → lowest < orderAt work i % nodes
+      → Coming work n last i best lowest
   coming-later e h l = record {
     within = omega (arith, o .within);
     seen = omega (arith, o .seen, rw (eq-eqb _ _ e, lt-ltb (last % nodes) (orderAt work i % nodes) h, lt-ltb lowest (orderAt work i % nodes) l) at coming-turn);
@@ -220,5 +247,6 @@ module _ {work : List ℕ} {n last i best lowest : ℕ} (o : Coming work n last 
     number = rw (lt-ltb i n (omega (arith, o .within)));
   }
 
+-- for the loop's end: all rows were seen
 pub coming-done : {work : List ℕ} {n last best lowest : ℕ} → Coming work n last 0 best lowest → best ≡ nextClosed (nodeFrom last) (rowsOf work n)
 coming-done o = omega (arith, o .seen)

@@ -1,13 +1,13 @@
 -- The two words of a row: a row that was packed comes back whole; order words compare as their entries do; the low part of an order
 -- word is the node. Assumes nothing.
-use mathlib.Core.Path.{_≡_, refl, ap, _∙_}
+use mathlib.Core.Path.{_≡_, ap, _∙_}
 use mathlib.Core.Logic.{_⊎_, inl, inr}
 use mathlib.Core.Bool.{Bool, true, false, cond}
 use Prim.Native.Nat.{ℕ, _+_, _*_, _/_, _%_, _^_, _<_}
 use native.Mathlib.Omega.{arith}
-use lib.Dec.{T, eqb, ltb, ltb→lt, lt→ltb, eqb→eq}
+use lib.Dec.{eqb, ltb}
 use borrow.Author.Tests.{eq-eqb, ne-eqb}
-use Rattle.lists.proofs.Tests.{and-in, and-out, true-in}
+use Rattle.lists.proofs.Decides.{said, agree, both, equal, less}
 use Rattle.lists.proofs.Lexicographic.{compared}
 use Rattle.trellis.specs.Trellis.{node, same}
 use Rattle.trellis.specs.Verdict.{entry, earlier, before}
@@ -17,6 +17,7 @@ use Rattle.store.specs.Memory.{rowOf, Small, states, levels, nodes, orde
 
 -- ---- packed and taken apart
 
+-- the last bit of the other word is one bit, and is read as it was written
 bit-small : (b : Bool) → cond b 1 0 < 2
 bit-small true = omega arith
 bit-small false = omega arith
@@ -43,14 +44,8 @@ rowFrom-words r s =
 
 -- ---- compared
 
--- two tests that hold together are one
-test-path : (a b : Bool) → (T a → T b) → (T b → T a) → a ≡ b
-test-path true true f g = refl
-test-path true false f g = absurd (f tt)
-test-path false true f g = absurd (g tt)
-test-path false false f g = refl
-
 module _ (a b : ℕ) where
+  -- what stands before has the lower order word, and back
   words-out : Before (entryFrom a) (entryFrom b) → a < b
   words-out (inl h) = omega arith
   words-out (inr h) = go (h .0) (h .1)
@@ -74,40 +69,39 @@ module _ (a b : ℕ) where
   -- so that node order is one comparison, whatever the words are
   pub before-words : before (entryFrom a) (entryFrom b) ≡ ltb a b
   before-words =
-      test-path (before (entryFrom a) (entryFrom b)) (ltb a b)
-      (λ h. lt→ltb a b (words-out (before-out (entryFrom a) (entryFrom b) h)))
-      (λ h. before-in (entryFrom a) (entryFrom b) (words-in (ltb→lt a b h)))
+      agree
+      (record {
+        out = (λ h. words-out (before-out (entryFrom a) (entryFrom b) h));
+        into = (λ h. before-in (entryFrom a) (entryFrom b) (words-in h));
+      })
+      (less a b)
 
   -- level, then state, is one comparison too
   pub earlier-words : earlier (entryFrom a .node) (entryFrom b .node) ≡ ltb (a % nodes) (b % nodes)
   earlier-words =
-      test-path (earlier (entryFrom a .node) (entryFrom b .node)) (ltb (a % nodes) (b % nodes))
-      (λ h. lt→ltb (a % nodes) (b % nodes) (out (earlier-out (entryFrom a .node) (entryFrom b .node) h)))
-      (λ h. earlier-in (entryFrom a .node) (entryFrom b .node) (into (ltb→lt (a % nodes) (b % nodes) h) (compared (a / states % levels) (b / states % levels))))
+      agree
+      (record {
+        out = (λ h. number-out (earlier-out (entryFrom a .node) (entryFrom b .node) h));
+        into = (λ h. earlier-in (entryFrom a .node) (entryFrom b .node) (number-in h (compared (a / states % levels) (b / states % levels))));
+      })
+      (less (a % nodes) (b % nodes))
     where
-      out : Earlier (entryFrom a .node) (entryFrom b .node) → a % nodes < b % nodes
-      out (inl h) = omega arith
-      out (inr h) = omega (arith, h .0, h .1)
+      number-out : Earlier (entryFrom a .node) (entryFrom b .node) → a % nodes < b % nodes
+      number-out (inl h) = omega arith
+      number-out (inr h) = omega (arith, h .0, h .1)
 
-      into : a % nodes < b % nodes
+      number-in : a % nodes < b % nodes
           → (a / states % levels < b / states % levels) ⊎ ((a / states % levels ≡ b / states % levels) ⊎ (b / states % levels < a / states % levels))
           → Earlier (entryFrom a .node) (entryFrom b .node)
-      into h (inl l) = inl l
-      into h (inr (inl e)) = inr (e, omega arith)
-      into h (inr (inr l)) = absurd (omega arith)
+      number-in h (inl l) = inl l
+      number-in h (inr (inl e)) = inr (e, omega arith)
+      number-in h (inr (inr l)) = absurd (omega arith)
 
 -- so that level and every bit of the state are one comparison
 pub same-words : (order level state : ℕ) → level < 2 ^ 10 → state < 2 ^ 16
     → same (entryFrom order .node) (node level state) ≡ eqb (order % nodes) (level * states + state)
 same-words order level state h k =
-    test-path (same (entryFrom order .node) (node level state)) (eqb (order % nodes) (level * states + state))
-    (λ t.
-    let both = and-out (eqb (order / states % levels) level) (eqb (order % states) state) t in
-    let p : order / states % levels ≡ level = eqb→eq (order / states % levels) level (both .0) in
-    let q : order % states ≡ state = eqb→eq (order % states) state (both .1) in
-    true-in (eqb (order % nodes) (level * states + state)) (eq-eqb (order % nodes) (level * states + state) (omega arith)))
-    (λ t.
-    let e : order % nodes ≡ level * states + state = eqb→eq (order % nodes) (level * states + state) t in
-    and-in (eqb (order / states % levels) level) (eqb (order % states) state)
-    (true-in (eqb (order / states % levels) level) (eq-eqb (order / states % levels) level (omega arith)))
-    (true-in (eqb (order % states) state) (eq-eqb (order % states) state (omega arith))))
+    agree
+    (said (both (equal (order / states % levels) level) (equal (order % states) state))
+    (λ p. omega (arith, p .0, p .1)) (λ e. (omega (arith, e), omega (arith, e))))
+    (equal (order % nodes) (level * states + state))

@@ -14,7 +14,13 @@ use Rattle.store.specs.declared.Held.{Held}
 
 -- the row that a value of the program stands for
 abbrev pub rowOf : Held → Row
-rowOf r = record { entry = entry (r .cost) (r .level) (r .state); count = r .count; parent = r .parent; input = r .input; closed = r .closed }
+rowOf r = record {
+  entry = entry (r .cost) (r .level) (r .state);
+  count = r .count;
+  parent = r .parent;
+  input = r .input;
+  closed = r .closed;
+}
 
 -- a row that the words can hold
 pub record Small (r : Held) : Type 0 where

@@ -1,4 +1,5 @@
-// Nodes in lent memory: found, added, lowered, joined, closed, the first open one taken, the closed ones listed. Three words a row (specs/Memory).
+// Nodes in lent memory: found, added, lowered, joined, closed, the first open one taken, the closed ones listed. Three words a row
+// (specs/Memory).
 ghost use mathlib.Core.Path.{_≡_};
 ghost use Prim.Native.Nat.{_+_, _*_, _^_, _≤_, _<_, min};
 ghost use lib.ListN.{length};
@@ -192,6 +193,7 @@ fn order_word(r: Held) -> u64
     r.cost * NODES + r.level * STATES + r.state
 }
 
+// The other word: the last bit tells whether the row is closed.
 fn rest_word(r: Held) -> u64
     requires { ⌜ Small r ⌝ }
     ensures { λ w. ⌜ w ≡ restWord r ⌝ }

@@ -17,11 +17,13 @@ abbrev μ-loop : tie.MeasureT-loop
 -- ---- what is known in a turn
 
 -- the rows seen before it start behind row i
-seen : (w : tie.In-loop Inv-loop μ-loop) → let a = w .before in let s = a .before .args in Opening (s .work .now) (s .n) (suc (a .loop .i - 1)) (a .loop .best) (a .loop .lowest)
+seen : (w : tie.In-loop Inv-loop μ-loop) → let a = w .before in let s = a .before .args in
+    Opening (s .work .now) (s .n) (suc (a .loop .i - 1)) (a .loop .best) (a .loop .lowest)
 seen w = let a = w .before in let e : suc (a .loop .i - 1) ≡ a .loop .i = omega (arith, w .loop-test .taken) in rw e (a .loop .inv)
 
 -- an order word is a word
-fits : (k : tie.After-shared-slice-known Inv-loop μ-loop) → let a = k .before .before in orderAt (a .before .args .work .now) (a .loop .i - 1) ≤ largest
+fits : (k : tie.After-shared-slice-known Inv-loop μ-loop) → let a = k .before .before in
+    orderAt (a .before .args .work .now) (a .loop .i - 1) ≤ largest
 fits k = omega (arith, k .shared-slice-known .given (3 * (k .before .before .loop .i - 1)))
 
 -- ---- the answers

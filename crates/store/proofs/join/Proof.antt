@@ -32,7 +32,13 @@ returns c =
     let m : t .stopped .result ≡ min (s .args .cap) (k .row .result .count + s .args .more) = t .stopped .ensures in
     rw (p .put .ensures, m)
     (set-shows (s .args .work .now) (s .args .n) (s .args .i) _ (s .pre .0) (s .pre .1 .0) (omega (arith, k .row .ensures .1))
-    (λ z. record { entry = e z .entry; count = min (s .args .cap) (e z .count + s .args .more); parent = e z .parent; input = e z .input; closed = e z .closed }))
+    (λ z. record {
+      entry = e z .entry;
+      count = min (s .args .cap) (e z .count + s .args .more);
+      parent = e z .parent;
+      input = e z .input;
+      closed = e z .closed;
+    }))
 
 pub join-spec : {M : Type 1} → statement M
 join-spec =

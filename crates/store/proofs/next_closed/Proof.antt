@@ -19,8 +19,8 @@ abbrev μ-loop : tie.MeasureT-loop
 -- ---- what is known in a turn
 
 -- the rows seen before it start behind row i
-seen : (w : tie.In-loop Inv-loop μ-loop)
-    → let a = w .before in let s = a .before .before .args in Coming (s .work .now) (s .n) (orderAt (s .work .now) (s .k)) (suc (a .loop .i - 1)) (a .loop .best) (a .loop .lowest)
+seen : (w : tie.In-loop Inv-loop μ-loop) → let a = w .before in let s = a .before .before .args in
+    Coming (s .work .now) (s .n) (orderAt (s .work .now) (s .k)) (suc (a .loop .i - 1)) (a .loop .best) (a .loop .lowest)
 seen w = let a = w .before in let e : suc (a .loop .i - 1) ≡ a .loop .i = omega (arith, w .loop-test .taken) in rw e (a .loop .inv)
 
 -- ---- the answers
@@ -65,13 +65,19 @@ loop-less : tie.Need-loop-less Inv-loop μ-loop
 loop-less c = omega arith
 
 loop-again : tie.Need-loop-again Inv-loop μ-loop
-loop-again c = let b = c .before in let a = b .before in coming-first (seen (a .before .before .before)) (a .if1 .taken) (b .if2 .taken) (c .if3 .taken)
+loop-again c =
+    let b = c .before in
+    let a = b .before in
+    coming-first (seen (a .before .before .before)) (a .if1 .taken) (b .if2 .taken) (c .if3 .taken)
 
 loop-less-2 : tie.Need-loop-less-2 Inv-loop μ-loop
 loop-less-2 c = omega arith
 
 loop-again-2 : tie.Need-loop-again-2 Inv-loop μ-loop
-loop-again-2 c = let b = c .before in let a = b .before in coming-later (seen (a .before .before .before)) (a .if1 .taken) (b .if2 .taken) (c .if3 .left)
+loop-again-2 c =
+    let b = c .before in
+    let a = b .before in
+    coming-later (seen (a .before .before .before)) (a .if1 .taken) (b .if2 .taken) (c .if3 .left)
 
 loop-less-3 : tie.Need-loop-less-3 Inv-loop μ-loop
 loop-less-3 c = omega arith
