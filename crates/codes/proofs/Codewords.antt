@@ -14,6 +14,7 @@ use Rattle.codes.proofs.Registers.{next-below}
 
 -- ---- the tail
 
+-- at every place of the tail, and past it, stands 0
 zeros : (m i : ℕ) → _≡_ {A = ℕ} (getD (replicate m 0) i 0) 0
 zeros zero i = refl
 zeros (suc m) zero = refl
@@ -25,12 +26,14 @@ withTail-at m [] i = zeros m i
 withTail-at m (b ∷ message) zero = refl
 withTail-at m (b ∷ message) (suc i) = withTail-at m message i
 
+-- for the number of steps: L + m
 pub length-withTail : (m : ℕ) (message : List ℕ) → length (withTail m message) ≡ length message + m
 length-withTail m message = simp (length-append, length-replicate)
 
 -- ---- lengths
 
 module _ (generators : List ℕ) (m : ℕ) where
+  -- n symbols for each bit
   pub length-outputsFrom : (s : ℕ) (bits : List ℕ) → length (outputsFrom generators m s bits) ≡ length generators * length bits
   unfolding outputsFrom
   length-outputsFrom s [] = omega (arith, mul-zero (length generators))
@@ -44,7 +47,8 @@ module _ (generators : List ℕ) (m : ℕ) where
       )
 
 -- for the sizes of buffers: a codeword has N symbols
-pub length-codeword : (c : Code) (message : List ℕ) → c .outputs ≤ length (c .generators) → length (codeword c message) ≡ blockLength c (length message)
+pub length-codeword : (c : Code) (message : List ℕ) → c .outputs ≤ length (c .generators)
+    → length (codeword c message) ≡ blockLength c (length message)
 unfolding codeword
 length-codeword c message h =
     length-outputsFrom (generatorsOf c) (c .memory) 0 (withTail (c .memory) message)
@@ -68,6 +72,7 @@ module _ (generators : List ℕ) (m : ℕ) (bits first out : List ℕ) (s at i :
   abbrev branch : List ℕ
   branch = branchOutputs generators (registerOf m bit s)
 
+  -- what is left is the branch and the rest, and so long
   next-outputs : outputsFrom generators m s (drop i bits) ≡ branch ++ outputsFrom generators m (nextState m bit s) (drop (i + 1) bits)
   unfolding outputsFrom
   next-outputs = rw (drop-cons bits i 0 more, add-one)
@@ -76,7 +81,10 @@ module _ (generators : List ℕ) (m : ℕ) (bits first out : List ℕ) (s at i :
   rest = outputsFrom generators m (nextState m bit s) (drop (i + 1) bits)
 
   next-length : length (outputsFrom generators m s (drop i bits)) ≡ length generators + length rest
-  next-length = ap length next-outputs ∙ length-append branch rest ∙ ap (λ (k : ℕ). k + length rest) (length-map generators (outputBit (registerOf m bit s)))
+  next-length =
+      ap length next-outputs
+      ∙ length-append branch rest
+      ∙ ap (λ (k : ℕ). k + length rest) (length-map generators (outputBit (registerOf m bit s)))
 
   -- for the branch's own bound: there is room for it
   pub branch-fits : at + length generators ≤ length out
@@ -97,12 +105,15 @@ module _ (generators : List ℕ) (m : ℕ) (bits first out : List ℕ) (s at i :
   }
 
 -- for the loop's start
-pub writing-start : (generators : List ℕ) (m : ℕ) (bits first : List ℕ) → 0 < 2 ^ m → length (outputsFrom generators m 0 bits) ≤ length first
+pub writing-start : (generators : List ℕ) (m : ℕ) (bits first : List ℕ)
+    → 0 < 2 ^ m → length (outputsFrom generators m 0 bits) ≤ length first
     → Writing generators m bits first first 0 0 0
 writing-start generators m bits first h k = record { within = omega arith; state = h; kept = refl; room = omega arith; left = refl }
 
 -- for the loop's end
-pub writing-done : (generators : List ℕ) (m : ℕ) (bits first out : List ℕ) (s at i : ℕ) → Writing generators m bits first out s at i → length bits ≤ i
+pub writing-done : (generators : List ℕ) (m : ℕ) (bits first out : List ℕ) (s at i : ℕ)
+    → Writing generators m bits first out s at i → length bits ≤ i
     → out ≡ sets first 0 (outputsFrom generators m 0 bits)
 unfolding outputsFrom
-writing-done generators m bits first out s at i w h = sym (ap (λ (l : List ℕ). sets out at (outputsFrom generators m s l)) (drop-of-length-le bits h)) ∙ w .left
+writing-done generators m bits first out s at i w h =
+    sym (ap (λ (l : List ℕ). sets out at (outputsFrom generators m s l)) (drop-of-length-le bits h)) ∙ w .left

@@ -15,6 +15,7 @@ use Rattle.codes.specs.declared.encoder.Encoded.the-variants.{Done, BadC
 
 -- ---- the rows
 
+-- for whoever made the tests: each row, where the tests before it passed
 module _ (c : Code) (message out : List ℕ) where
   pub encoding-bad-code : lawful c ≡ false → encoding c message out ≡ handed 1 0 out
   unfolding encoding
@@ -24,7 +25,8 @@ module _ (c : Code) (message out : List ℕ) where
   unfolding encoding
   encoding-bad-size h k = rw (h, k)
 
-  pub encoding-malformed : lawful c ≡ true → sizesFit c (length message) (length out) ≡ true → all isBit message ≡ false → encoding c message out ≡ handed 6 0 out
+  pub encoding-malformed : lawful c ≡ true → sizesFit c (length message) (length out) ≡ true → all isBit message ≡ false
+      → encoding c message out ≡ handed 6 0 out
   unfolding encoding
   encoding-malformed h k b = rw (h, k, b)
 
@@ -45,6 +47,7 @@ answerOf e = read (e .number) (e .symbols)
     read (suc (suc zero)) n = BadSize
     read (suc (suc (suc k))) n = Malformed
 
+-- what was told says which answer it was, and what the buffer holds
 answerOf-told : (r : Encoded) (out : List ℕ) → answerOf (told r out) ≡ r
 unfolding told answerOf
 answerOf-told (Done n) out = refl

@@ -15,6 +15,7 @@ use Rattle.codes.specs.declared.table.Code.{Code}
 pub from-out : (low high x : ℕ) → from low high x ≡ true → (low ≤ x) × (x ≤ high)
 from-out low high x h = let p = both (leb low x) (leb x high) h in (leb-true low x (p .0), leb-true x high (p .1))
 
+-- what the rule says, a bound a field
 pub record Bounds (c : Code) : Type 0 where
   pub outputs-least : fewestOutputs ≤ c .outputs
   pub outputs-most : c .outputs ≤ mostOutputs
@@ -39,6 +40,7 @@ house-rows : all lawful houseCodes ≡ true
 unfolding all lawful houseCodes
 house-rows = refl
 
+-- for whoever takes a code from the table: no operation refuses it 1
 pub house-lawful : (row : ℕ) → row < 4 → lawful (houseCode row) ≡ true
 unfolding houseCodes houseCode
 house-lawful row h = all-within lawful houseCodes _ row h house-rows

@@ -30,7 +30,8 @@ lawful c =
 
 -- ---- the house codes
 
--- 'Four house codes stand in a table, one row for each code'
+-- 'Four house codes stand in a table, one row for each code: 7, 5 (m=2; 000); 103, 93 (m=6; 001); 303, 493 (m=8; 002);
+-- 118025, 78583 (m=16; 001).'
 unfoldable pub houseCodes : List Code
 houseCodes =
     record { outputs = 2; memory = 2; generators = 7 ∷ 5 ∷ 0 ∷ 0 ∷ [] } ∷

@@ -17,17 +17,18 @@ pub record Encoding : Type 0 where
   pub symbols : ℕ
   pub out : List ℕ
 
+-- the same, short
 abbrev pub handed : ℕ → ℕ → List ℕ → Encoding
 handed number symbols out = record { number = number; symbols = symbols; out = out }
 
--- the paper's number and values for each case of the answer
+-- 'For each case of an enum answer, a definition gives this paper's number and values.'
 unfoldable pub told : Encoded → List ℕ → Encoding
 told (Done n) out = handed 0 n out
 told BadCode out = handed 1 0 out
 told BadSize out = handed 2 0 out
 told Malformed out = handed 6 0 out
 
--- 'A message has L bits, L from 1 to 200'; 'The encoder's L is the length of its message', and its buffer holds N bytes
+-- 'A message has L bits, L from 1 to 200'; 'The encoder's L is the length of its message'; 'an output buffer .. too short'
 abbrev pub sizesFit : Code → ℕ → ℕ → Bool
 sizesFit c l room = from shortestMessage longestMessage l && leb (blockLength c l) room
 
@@ -35,7 +36,8 @@ sizesFit c l room = from shortestMessage longestMessage l && leb (blockLength c 
 abbrev pub isBit : ℕ → Bool
 isBit b = leb b 1
 
--- The refusals 1, 2, 6 in their order, 'every output buffer untouched'; then 'N bytes, each 0 or 1', the excess untouched.
+-- 'tested in the order 1, 2, 6': 'On any refusal every output buffer is untouched'; then 'The encoder writes N bytes, each 0 or 1, and
+-- gives N', and of a longer buffer 'its excess is untouched'.
 unfoldable pub encoding : Code → List ℕ → List ℕ → Encoding
 encoding c message out =
     cond (not (lawful c)) (handed 1 0 out)

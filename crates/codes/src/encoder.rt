@@ -1,4 +1,4 @@
-// The encoder.
+// The encoder: the sizes and bits are tested before the first byte is written, so a refusal writes nothing.
 use crate::limits::LONGEST_MESSAGE;
 use crate::limits::SHORTEST_MESSAGE;
 use crate::register::Register;

@@ -1,6 +1,7 @@
 // The encoder's register and the output bit.
 ghost use mathlib.Core.Path.{_≡_};
 ghost use Prim.Native.Nat.{_≤_, _<_, _^_};
+ghost use Rattle.codes.specs.Limits.{mostMemory};
 ghost use Rattle.codes.specs.Codes.{registerOf, outputBit, nextState};
 
 // The memory m and the state, a number below 2^m.
@@ -19,7 +20,7 @@ impl Register {
 
     // The register with the bit in front, as one number.
     pub fn with(self, bit: u8) -> u32
-        requires { ⌜ (self .memory ≤ 16) × (self .state < 2 ^ (self .memory)) × (bit ≤ 1) ⌝ }
+        requires { ⌜ (self .memory ≤ mostMemory) × (self .state < 2 ^ (self .memory)) × (bit ≤ 1) ⌝ }
         ensures { λ r. ⌜ r ≡ registerOf (self .memory) bit (self .state) ⌝ }
     {
         let memory = self.memory;
@@ -28,7 +29,7 @@ impl Register {
 
     // The next register: a value handed back after each bit.
     pub fn next(self, bit: u8) -> Register
-        requires { ⌜ (self .memory ≤ 16) × (self .state < 2 ^ (self .memory)) × (bit ≤ 1) ⌝ }
+        requires { ⌜ (self .memory ≤ mostMemory) × (self .state < 2 ^ (self .memory)) × (bit ≤ 1) ⌝ }
         ensures { λ r. ⌜ (r .memory ≡ self .memory) × (r .state ≡ nextState (self .memory) bit (self .state)) ⌝ }
     {
         let halved = self.with(bit) / 2;

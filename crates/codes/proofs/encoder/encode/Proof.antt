@@ -29,12 +29,14 @@ code-lawful c = sym (c .before .keeps-rules .ensures) ∙ not-false _ (c .if1 .l
 abbrev first : tie.Else4 → tie.Else1
 first d = d .before .before .before .before .before
 
-sizes-fit : (d : tie.Else4) → let s = entry (first d) in sizesFit (s .args .code) (length (s .args .message .now)) (length (s .args .out .now)) ≡ true
+sizes-fit : (d : tie.Else4) → let s = entry (first d) in
+    sizesFit (s .args .code) (length (s .args .message .now)) (length (s .args .out .now)) ≡ true
 sizes-fit d =
     let e = d .before .before .before in
     rw (le-leb _ _ (e .before .if2 .left), le-leb _ _ (e .if3 .left), le-leb _ _ (d .if4 .left))
 
-encodable : (e : tie.Else5) → let s = entry (first (e .before .before)) in Encodable (s .args .code) (s .args .message .now) (length (s .args .out .now))
+encodable : (e : tie.Else5) → let s = entry (first (e .before .before)) in
+    Encodable (s .args .code) (s .args .message .now) (length (s .args .out .now))
 encodable e = record {
   code = code-lawful (first (e .before .before));
   sizes = sizes-fit (e .before .before);
@@ -56,7 +58,8 @@ returns-2 c = sym (encoding-bad-size _ _ _ (code-lawful (c .before)) (rw (lt-leb
 
 returns-3 : tie.Need-returns-3
 unfolding told
-returns-3 c = sym (encoding-bad-size _ _ _ (code-lawful (c .before .before)) (rw (le-leb _ _ (c .before .if2 .left), lt-leb _ _ (c .if3 .taken))))
+returns-3 c =
+    sym (encoding-bad-size _ _ _ (code-lawful (c .before .before)) (rw (le-leb _ _ (c .before .if2 .left), lt-leb _ _ (c .if3 .taken))))
 
 cast-symbols : tie.Need-cast-symbols
 cast-symbols c = search needs
@@ -78,7 +81,8 @@ returns-4 : tie.Need-returns-4
 unfolding told
 returns-4 c =
     let k = c .before .before .before in
-    sym (encoding-bad-size _ _ _ (code-lawful (k .before .before)) (rw (le-leb _ _ (k .before .if2 .left), le-leb _ _ (k .if3 .left), lt-leb _ _ (c .if4 .taken))))
+    sym (encoding-bad-size _ _ _ (code-lawful (k .before .before))
+    (rw (le-leb _ _ (k .before .if2 .left), le-leb _ _ (k .if3 .left), lt-leb _ _ (c .if4 .taken))))
 
 are-bits-requires : tie.Need-are-bits-requires
 are-bits-requires c κs = search needs
@@ -111,7 +115,8 @@ returns-6 c =
     p .put-codeword .ensures
     ∙ sets-front (s .args .out .now) word (omega (arith, n, e .before .before .if4 .left))
     ∙ ap (λ (k : ℕ). word ++ drop k (s .args .out .now)) n in
-    ap (handed 0 (blockLength (s .args .code) (length (s .args .message .now)))) w ∙ sym (encoding-done (s .args .code) (s .args .message .now) (s .args .out .now) ok)
+    ap (handed 0 (blockLength (s .args .code) (length (s .args .message .now)))) w
+    ∙ sym (encoding-done (s .args .code) (s .args .message .now) (s .args .out .now) ok)
 
 pub encode-spec : {M : Type 1} → statement M
 encode-spec =

@@ -10,9 +10,11 @@ use lib.ListN.{length, getD, take}
 use lib.Pow.{pow-pos}
 use lib.Seq.{sets, length-take-le}
 use Rattle.lists.proofs.Scan.{all-getD}
+use Rattle.codes.specs.Limits.{mostMemory, shortestMessage, longestMessage}
 use Rattle.codes.specs.Codes.{from, generatorsOf, registerOf, nextState, branchOutputs, outputsFrom, withTail, codeword, blockLength}
 use Rattle.codes.specs.Encoding.{isBit}
-use Rattle.codes.proofs.Codewords.{Writing, writing-start, writing-next, writing-done, branch-fits, withTail-at, length-withTail, length-codeword}
+use Rattle.codes.proofs.Codewords.{Writing, writing-start, writing-next, writing-done, branch-fits}
+use Rattle.codes.proofs.Codewords.{withTail-at, length-withTail, length-codeword}
 use Rattle.codes.proofs.Rules.{Bounds, lawful-out, both, from-out}
 use Rattle.codes.proofs.encoder.put_codeword.Statement.{statement}
 use Rattle.codes.proofs.encoder.put_codeword.Tie as tie
@@ -33,10 +35,13 @@ entry a = a .before .before .before .before .before .before .before
 bounds : (s : tie.Start Inv-loop μ-loop) → Bounds (s .args .code)
 bounds s = lawful-out (s .args .code) (s .pre .code)
 
-sizes : (s : tie.Start Inv-loop μ-loop) → (length (s .args .message .now) ≤ 200) × (blockLength (s .args .code) (length (s .args .message .now)) ≤ length (s .args .out .now))
+-- L is small, and the buffer has room for N symbols
+sizes : (s : tie.Start Inv-loop μ-loop) → let l = length (s .args .message .now) in
+    (l ≤ longestMessage) × (blockLength (s .args .code) l ≤ length (s .args .out .now))
 sizes s =
-    let p = both (from 1 200 (length (s .args .message .now))) _ (s .pre .sizes) in
-    (from-out 1 200 (length (s .args .message .now)) (p .0) .1, leb-true _ _ (p .1))
+    let l = length (s .args .message .now) in
+    let p = both (from shortestMessage longestMessage l) _ (s .pre .sizes) in
+    (from-out shortestMessage longestMessage l (p .0) .1, leb-true _ _ (p .1))
 
 -- the generators stand in an array of four
 four : (s : tie.Start Inv-loop μ-loop) → length (s .args .code .generators) ≡ 4
@@ -70,7 +75,8 @@ fits w =
     omega (arith, counted a, branch-fits (generators a) _ (bits a) _ _ _ (a .loop .at) (a .loop .i) (a .loop .inv .1) (more w))
 
 -- the register can take the bit
-ready : (c : tie.After-bit-at Inv-loop μ-loop) → let r = c .before .before .loop .register in (r .memory ≤ 16) × (r .state < 2 ^ (r .memory)) × (c .bit-at .result ≤ 1)
+ready : (c : tie.After-bit-at Inv-loop μ-loop) → let r = c .before .before .loop .register in
+    (r .memory ≤ mostMemory) × (r .state < 2 ^ (r .memory)) × (c .bit-at .result ≤ 1)
 ready c =
     let a = c .before .before in (
       omega (arith, memory a, a .loop .inv .0, bounds (entry a) .memory-most),
@@ -98,11 +104,14 @@ loop-holds : tie.Need-loop-holds Inv-loop μ-loop
 unfolding codeword
 loop-holds c =
     let s = c .before .before .before .before .before .before in
-    let m = c .start .result .memory in
-    let N : length (codeword (s .args .code) (s .args .message .now)) ≤ length (s .args .out .now) =
-    omega (arith, sizes s .1, length-codeword (s .args .code) (s .args .message .now) (omega (arith, four s, bounds s .outputs-most))) in (
+    let code = s .args .code in
+    let message = s .args .message .now in
+    let out = s .args .out .now in
+    let room : length (codeword code message) ≤ length out =
+    omega (arith, sizes s .1, length-codeword code message (omega (arith, four s, bounds s .outputs-most))) in (
       refl,
-      rw (c .start .ensures .1, c .start .ensures .0) (writing-start (generatorsOf (s .args .code)) (s .args .code .memory) (withTail (s .args .code .memory) (s .args .message .now)) (s .args .out .now) (pow-pos _) N),
+      rw (c .start .ensures .1, c .start .ensures .0)
+          (writing-start (generatorsOf code) (code .memory) (withTail (code .memory) message) out (pow-pos _) room),
     )
 
 bit-at-requires : tie.Need-bit-at-requires Inv-loop μ-loop
@@ -142,18 +151,23 @@ loop-again c =
     let a = w .before in
     let s = entry a in
     let m = a .before .start .result .memory in
-    let b : t .before .bit-at .result ≡ getD (bits a) (a .loop .i) 0 = t .before .bit-at .ensures ∙ sym (withTail-at m (s .args .message .now) (a .loop .i)) in
-    let n : Writing (generators a) m (bits a) (s .args .out .now)
-    (sets (a .loop .out) (a .loop .at) (branchOutputs (generators a) (registerOf m (getD (bits a) (a .loop .i) 0) (a .loop .register .state))))
-    (nextState m (getD (bits a) (a .loop .i) 0) (a .loop .register .state)) (a .loop .at + length (generators a)) (a .loop .i + 1) =
-    writing-next (generators a) m (bits a) (s .args .out .now) (a .loop .out) (a .loop .register .state) (a .loop .at) (a .loop .i) (a .loop .inv .1) (more w) (omega (arith, bit-small a, withTail-at m (s .args .message .now) (a .loop .i))) in
-    let r : registerOf (a .loop .register .memory) (t .before .bit-at .result) (a .loop .register .state) ≡ registerOf m (getD (bits a) (a .loop .i) 0) (a .loop .register .state) =
-    λ z. registerOf (a .loop .inv .0 z) (b z) (a .loop .register .state) in (
+    let out = s .args .out .now in
+    let state = a .loop .register .state in
+    let at = a .loop .at in
+    let i = a .loop .i in
+    let bit = getD (bits a) i 0 in
+    let same : bit ≡ getD (s .args .message .now) i 0 = withTail-at m (s .args .message .now) i in
+    let b : t .before .bit-at .result ≡ bit = t .before .bit-at .ensures ∙ sym same in
+    let n : Writing (generators a) m (bits a) out (sets (a .loop .out) at (branchOutputs (generators a) (registerOf m bit state)))
+    (nextState m bit state) (at + length (generators a)) (i + 1) =
+    writing-next (generators a) m (bits a) out (a .loop .out) state at i (a .loop .inv .1) (more w) (omega (arith, bit-small a, same)) in
+    let r : registerOf (a .loop .register .memory) (t .before .bit-at .result) state ≡ registerOf m bit state =
+    λ z. registerOf (a .loop .inv .0 z) (b z) state in (
       c .next .ensures .0 ∙ a .loop .inv .0,
-      subst₃ (λ (o : List ℕ) (q : ℕ) (p : ℕ). Writing (generators a) m (bits a) (s .args .out .now) o q p (a .loop .i + 1))
-          (sym (k .put-branch .ensures ∙ ap (λ (x : ℕ). sets (a .loop .out) (a .loop .at) (branchOutputs (generators a) x)) (t .with .ensures ∙ r)))
+      subst₃ (λ (o : List ℕ) (q : ℕ) (p : ℕ). Writing (generators a) m (bits a) out o q p (i + 1))
+          (sym (k .put-branch .ensures ∙ ap (λ (x : ℕ). sets (a .loop .out) at (branchOutputs (generators a) x)) (t .with .ensures ∙ r)))
           (sym (c .next .ensures .1 ∙ ap (λ (x : ℕ). x / 2) r))
-          (ap (λ (x : ℕ). a .loop .at + x) (counted a))
+          (ap (λ (x : ℕ). at + x) (counted a))
           n,
     )
 
@@ -166,8 +180,9 @@ returns c =
     let a = c .before in
     let m = a .before .start .result .memory in
     let s = entry a in
+    let all : length (bits a) ≤ a .loop .i = omega (arith, length-withTail m (s .args .message .now), memory a, c .loop-test .left) in
     let e : a .loop .out ≡ sets (s .args .out .now) 0 (outputsFrom (generators a) m 0 (bits a)) =
-    writing-done (generators a) m (bits a) (s .args .out .now) (a .loop .out) _ (a .loop .at) (a .loop .i) (a .loop .inv .1) (omega (arith, length-withTail m (s .args .message .now), memory a, c .loop-test .left)) in
+    writing-done (generators a) m (bits a) (s .args .out .now) (a .loop .out) _ (a .loop .at) (a .loop .i) (a .loop .inv .1) all in
     subst (λ (k : ℕ). a .loop .out ≡ sets (s .args .out .now) 0 (outputsFrom (generators a) k 0 (withTail k (s .args .message .now)))) (memory a) e
 
 pub put-codeword-spec : {M : Type 1} → statement M

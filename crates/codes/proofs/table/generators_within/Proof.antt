@@ -24,16 +24,18 @@ counted : (s : tie.Start Inv-loop μ-loop) → length (take (s .args .n) (s .arg
 counted s = length-take-le (s .args .n) (s .args .t1) (omega (arith, s .good .0 .1 .0 .1))
 
 -- what the loop reads is the generator at its place
-at-place : (w : tie.In-loop Inv-loop μ-loop) → getD (take (w .before .before .args .n) (w .before .before .args .t1)) (w .before .loop .i) 0 ≡ getD (w .before .before .args .t1) (w .before .loop .i) 0
+at-place : (w : tie.In-loop Inv-loop μ-loop) → let a = w .before in let s = a .before .args in
+    getD (take (s .n) (s .t1)) (a .loop .i) 0 ≡ getD (s .t1) (a .loop .i) 0
 at-place w = getD-take (w .before .before .args .n) (w .before .before .args .t1) (w .before .loop .i) 0 (w .loop-test .taken)
 
 -- a generator outside the bounds decides
-stopped : (w : tie.In-loop Inv-loop μ-loop) → from 1 (w .before .before .args .greatest) (getD (w .before .before .args .t1) (w .before .loop .i) 0) ≡ false
-    → false ≡ all (from 1 (w .before .before .args .greatest)) (take (w .before .before .args .n) (w .before .before .args .t1))
+stopped : (w : tie.In-loop Inv-loop μ-loop) → let a = w .before in let s = a .before .args in
+    from 1 (s .greatest) (getD (s .t1) (a .loop .i) 0) ≡ false → false ≡ all (from 1 (s .greatest)) (take (s .n) (s .t1))
 stopped w e =
     let a = w .before in
     let s = a .before in
-    sym (sym (a .loop .inv .1) ∙ all-stop (from 1 (s .args .greatest)) (take (s .args .n) (s .args .t1)) 0 (a .loop .i) (omega (arith, counted s)) (rw (at-place w) e))
+    sym (sym (a .loop .inv .1)
+    ∙ all-stop (from 1 (s .args .greatest)) (take (s .args .n) (s .args .t1)) 0 (a .loop .i) (omega (arith, counted s)) (rw (at-place w) e))
 
 loop-holds : tie.Need-loop-holds Inv-loop μ-loop
 loop-holds c = (omega arith, refl)

@@ -2,15 +2,16 @@
 use borrow.Author.Needs.{needs}
 use borrow.Author.Tests.{le-leb, lt-leb}
 use mathlib.Core.Path.{_≡_, _∙_}
-use Prim.Native.Nat.{ℕ, _+_, _-_, _*_, _%_, _^_, _≤_}
+use Prim.Native.Nat.{ℕ, _+_, _*_, _%_, _^_, _≤_}
 use native.Mathlib.Omega.{arith}
 use lib.Pow.{pow-add, pow-pos, shl-exact}
+use Rattle.codes.specs.Limits.{mostMemory}
 use Rattle.codes.specs.Codes.{lawful}
 use Rattle.codes.proofs.table.keeps_rules.Statement.{statement}
 use Rattle.codes.proofs.table.keeps_rules.Tie as tie
 
 -- the shift cuts nothing: it gives 2^(m+1)
-shifted : (m : ℕ) → m ≤ 16 → (2 * 2 ^ m) % 4294967296 ≡ 2 ^ (m + 1)
+shifted : (m : ℕ) → m ≤ mostMemory → (2 * 2 ^ m) % 4294967296 ≡ 2 ^ (m + 1)
 shifted m h = omega (arith, shl-exact {a = 2} 2 m 32 (omega arith) (omega arith), pow-add 2 m 1)
 
 returns : tie.Need-returns
@@ -28,7 +29,8 @@ returns-3 c = rw (le-leb _ _ (c .before .before .if1 .left), le-leb _ _ (c .befo
 returns-4 : tie.Need-returns-4
 unfolding lawful
 returns-4 c =
-    rw (le-leb _ _ (c .before .before .before .if1 .left), le-leb _ _ (c .before .before .if2 .left), le-leb _ _ (c .before .if3 .left), lt-leb _ _ (c .if4 .taken))
+    let k = c .before in
+    rw (le-leb _ _ (k .before .before .if1 .left), le-leb _ _ (k .before .if2 .left), le-leb _ _ (k .if3 .left), lt-leb _ _ (c .if4 .taken))
 
 shl-greatest : tie.Need-shl-greatest
 shl-greatest c = search needs

@@ -3,12 +3,13 @@ use borrow.Author.Needs.{needs}
 use mathlib.Core.Path.{_≡_}
 use Prim.Native.Nat.{ℕ, _*_, _%_, _^_, _≤_}
 use native.Mathlib.Omega.{arith}
+use Rattle.codes.specs.Limits.{mostMemory}
 use Rattle.codes.proofs.Registers.{power-small, bit-times}
 use Rattle.codes.proofs.register.Register.with.Statement.{statement}
 use Rattle.codes.proofs.register.Register.with.Tie as tie
 
 -- the shifted one is the power
-shifted : (m : ℕ) → m ≤ 16 → (1 * 2 ^ m) % 4294967296 ≡ 2 ^ m
+shifted : (m : ℕ) → m ≤ mostMemory → (1 * 2 ^ m) % 4294967296 ≡ 2 ^ m
 shifted m h = omega (arith, power-small m (omega arith))
 
 shl-result : tie.Need-shl-result
