@@ -16,7 +16,8 @@ use Rattle.codes.specs.Codes.{generatorsOf, registerOf, nextState, outputBit, b
 use Rattle.trellis.specs.Trellis.{Trellis, Path, ends, along, metric}
 use Rattle.trellis.specs.Verdict.{pathOf}
 use Rattle.blocks.specs.Symbols.{Seen}
-use Rattle.blocks.specs.Blocks.{distance, totalWeight, branchCost, trellisOf}
+use Rattle.blocks.specs.Blocks.{distance, branchCost, trellisOf}
+use Rattle.blocks.specs.Bounds.{totalWeight}
 
 -- ---- distance
 
@@ -30,7 +31,8 @@ distance-append (x ∷ xs) ys (s ∷ block) = omega (arith, distance-append xs y
 
 -- for a loop over the outputs: one place, and what is left
 pub distance-at : (x : ℕ) (xs : List ℕ) (block : List Seen) (at : ℕ) (d : Seen) → at < length block
-    → distance (x ∷ xs) (drop at block) ≡ cond (eqb x (getD block at d .hardBit)) 0 (getD block at d .weight) + distance xs (drop (at + 1) block)
+    → distance (x ∷ xs) (drop at block)
+    ≡ cond (eqb x (getD block at d .hardBit)) 0 (getD block at d .weight) + distance xs (drop (at + 1) block)
 unfolding distance
 distance-at x xs block at d h = rw (drop-cons block at d h, add-one)
 
@@ -52,6 +54,7 @@ zeros-shift : (k : ℕ) (p : Path) → replicate k 0 ++ (0 ∷ p) ≡ 0 ∷ (rep
 zeros-shift zero p = refl
 zeros-shift (suc k) p = ap (λ (q : Path). 0 ∷ q) (zeros-shift k p)
 
+-- a row of zeros is its own reversal
 reverse-zeros : (k : ℕ) (p : Path) → reverseAux (replicate k 0) p ≡ replicate k 0 ++ p
 reverse-zeros zero p = refl
 reverse-zeros (suc k) p = reverse-zeros k (0 ∷ p) ∙ zeros-shift k p
@@ -63,12 +66,14 @@ module _ (c : Code) (l : ℕ) (block : List Seen) (full : c .outputs ≤ length 
   -- the symbols behind a branch
   next-symbols : (k r : ℕ) → drop (length (branchOutputs (generatorsOf c) r)) (drop (k * c .outputs) block) ≡ drop (suc k * c .outputs) block
   next-symbols k r =
-      let n : length (branchOutputs (generatorsOf c) r) ≡ c .outputs = length-map (generatorsOf c) (outputBit r) ∙ length-take-le (c .outputs) (c .generators) full in
+      let n : length (branchOutputs (generatorsOf c) r) ≡ c .outputs =
+      length-map (generatorsOf c) (outputBit r) ∙ length-take-le (c .outputs) (c .generators) full in
       rw (n, drop-drop, suc-mul)
 
   -- a path that goes on by these bits costs the distance of their outputs from the symbols that are left
   metric-onward : (bits : List ℕ) (p : Path)
-      → metric t (reverseAux bits p) ≡ metric t p + distance (outputsFrom (generatorsOf c) (c .memory) (ends t p) bits) (drop (length p * c .outputs) block)
+      → metric t (reverseAux bits p)
+      ≡ metric t p + distance (outputsFrom (generatorsOf c) (c .memory) (ends t p) bits) (drop (length p * c .outputs) block)
   unfolding outputsFrom distance ends along branchCost
   metric-onward [] p = omega arith
   metric-onward (b ∷ bits) p =
@@ -94,5 +99,6 @@ module _ (c : Code) (l : ℕ) (block : List Seen) (full : c .outputs ≤ length 
   -- for the widths of numbers: no metric is above the sum of all weights
   pub metric-total : (p : Path) → metric t p ≤ totalWeight block
   metric-total p =
-      let e : metric t p ≡ distance (outputsFrom (generatorsOf c) (c .memory) 0 (reverse p)) block = ap (metric t) (sym (reverse-reverse p)) ∙ metric-bits (reverse p) in
-      rw e (distance-total (outputsFrom (generatorsOf c) (c .memory) 0 (reverse p)) block)
+      let outputs : List ℕ = outputsFrom (generatorsOf c) (c .memory) 0 (reverse p) in
+      let e : metric t p ≡ distance outputs block = ap (metric t) (sym (reverse-reverse p)) ∙ metric-bits (reverse p) in
+      rw e (distance-total outputs block)

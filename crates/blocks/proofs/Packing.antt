@@ -1,8 +1,8 @@
--- The block as plain numbers: what stands at a place, that the view is read back whole and in front, and what `see` leaves in a
--- buffer. Assumes nothing.
+-- The block as plain numbers: what stands at a place, that the view is read back whole, and what `see` leaves in a buffer.
+-- Assumes nothing.
 use mathlib.Core.Path.{_≡_, refl, ap, ap₂, _∙_}
 use mathlib.Core.List.{List, [], _∷_, _++_}
-use Prim.Native.Nat.{ℕ, zero, suc, _+_, _*_, _/_, _%_, _≤_}
+use Prim.Native.Nat.{ℕ, _+_, _*_, _/_, _%_, _≤_}
 use native.Mathlib.Omega.{arith}
 use lib.IntN.{ℤ, pos}
 use lib.ListN.{length, getD, take, drop, length-map, List·getD-map}
@@ -14,6 +14,7 @@ use Rattle.blocks.proofs.Weights.{hardBit-bit}
 
 -- ---- lengths and places
 
+-- for sizes: one number a symbol
 pub length-packed : (symbols : List ℤ) → length (packed (view symbols)) ≡ length symbols
 unfolding packed view
 length-packed symbols = length-map (view symbols) pack ∙ length-map symbols _
@@ -47,17 +48,6 @@ unfolding seenIn packed view
 seenIn-packed [] = refl
 seenIn-packed (z ∷ symbols) = ap₂ (λ (x : Seen) (l : List Seen). x ∷ l) (unpack-pack z) (seenIn-packed symbols)
 
--- for a part of the numbers
-pub seenIn-take : (n : ℕ) (numbers : List ℕ) → seenIn (take n numbers) ≡ take n (seenIn numbers)
-unfolding seenIn
-seenIn-take zero numbers = refl
-seenIn-take (suc n) [] = refl
-seenIn-take (suc n) (x ∷ numbers) = ap (λ (l : List Seen). unpack x ∷ l) (seenIn-take n numbers)
-
--- for a front of the view: the numbers of the first n symbols
-pub seenIn-front : (n : ℕ) (symbols : List ℤ) → seenIn (take n (packed (view symbols))) ≡ take n (view symbols)
-seenIn-front n symbols = seenIn-take n (packed (view symbols)) ∙ ap (take n) (seenIn-packed symbols)
-
 -- ---- what `see` leaves in a buffer
 
 module _ (symbols : List ℤ) (seen : List ℕ) (room : length symbols ≤ length seen) where
@@ -69,7 +59,9 @@ module _ (symbols : List ℤ) (seen : List ℕ) (room : length symbols ≤ lengt
 
   -- for the part that is lent on: it is the numbers
   pub see-part : take (length symbols) (sets seen 0 (packed (view symbols))) ≡ packed (view symbols)
-  see-part = ap (take (length symbols)) see-front ∙ take-at (packed (view symbols)) (drop (length symbols) seen) (length symbols) (length-packed symbols)
+  see-part =
+      ap (take (length symbols)) see-front
+      ∙ take-at (packed (view symbols)) (drop (length symbols) seen) (length symbols) (length-packed symbols)
 
   -- for whoever is lent that part: it shows the view
   pub see-view : seenIn (take (length symbols) (sets seen 0 (packed (view symbols)))) ≡ view symbols

@@ -25,10 +25,16 @@ use Rattle.blocks.proofs.Distance.{distance-at}
 -- for every read of a branch's symbols: below the top they are all there
 pub branch-within : (c : Code) (l level : ℕ) → level < l + c .memory → level * c .outputs + c .outputs ≤ blockLength c l
 branch-within c l level h =
-    omega (arith, mul-le-mul-right {m = suc level} {n = l + c .memory} (c .outputs) h, suc-mul level (c .outputs), mul-comm (c .outputs) (l + c .memory))
+    omega (
+      arith,
+      mul-le-mul-right {m = suc level} {n = l + c .memory} (c .outputs) h,
+      suc-mul level (c .outputs),
+      mul-comm (c .outputs) (l + c .memory),
+    )
 
 -- for the call of `price`: an allowed input of a node can be priced
-pub priceable : (c : Code) (l symbols level state input : ℕ) (block : List Seen) → lawful c ≡ true → symbols ≡ blockLength c l → state < 2 ^ c .memory
+pub priceable : (c : Code) (l symbols level state input : ℕ) (block : List Seen)
+    → lawful c ≡ true → symbols ≡ blockLength c l → state < 2 ^ c .memory
     → input < allowed (trellisOf c l block) level → Priceable c symbols level state input
 priceable c l symbols level state input block k e s i = record {
   code = k;

@@ -20,11 +20,12 @@ use Rattle.trellis.specs.Verdict.{leastMetric}
 use Rattle.trellis.proofs.Cost.{Cost}
 use Rattle.trellis.proofs.Messages.{leastMetric-cost}
 use Rattle.blocks.specs.Symbols.{hardBit, weight, view}
-use Rattle.blocks.specs.Blocks.{totalWeight, trellisOf, longestBlock, greatestWeight, greatestMetric}
+use Rattle.blocks.specs.Blocks.{trellisOf}
+use Rattle.blocks.specs.Bounds.{totalWeight, longestBlock, greatestWeight, greatestMetric}
 use Rattle.blocks.proofs.Closing.{trellis-lawful}
 use Rattle.blocks.proofs.Distance.{metric-total}
 
--- the paper's numbers
+-- the limits are the paper's numbers
 pub longest-block : longestBlock ≡ 864
 longest-block = refl
 

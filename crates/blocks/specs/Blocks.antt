@@ -1,12 +1,11 @@
 -- The trellis of a code, a message length L and a block: what a branch costs and where it leads. Document 01, 'Weight, metric,
--- node'. Believed, and read after Symbols, Codes and Trellis. Assumes nothing.
+-- node'. Believed, and read after Symbols, Codes and Trellis. How large blocks and metrics are is in Bounds. Assumes nothing.
 use mathlib.Core.List.{List, [], _∷_}
 use mathlib.Core.Bool.{cond}
 use Prim.Native.Nat.{ℕ, _+_, _*_}
 use lib.Dec.{eqb}
 use lib.ListN.{drop}
 use Rattle.codes.specs.declared.table.Code.{Code}
-use Rattle.codes.specs.Limits.{mostOutputs, mostMemory, longestMessage}
 use Rattle.codes.specs.Codes.{generatorsOf, registerOf, nextState, branchOutputs}
 use Rattle.trellis.specs.Trellis.{Trellis}
 use Rattle.blocks.specs.Symbols.{Seen}
@@ -19,11 +18,6 @@ distance [] block = 0
 distance (output ∷ outputs) [] = 0
 distance (output ∷ outputs) (symbol ∷ block) = cond (eqb output (symbol .hardBit)) 0 (symbol .weight) + distance outputs block
 
--- 'the sum of all weights'
-unfoldable pub totalWeight : List Seen → ℕ
-totalWeight [] = 0
-totalWeight (symbol ∷ block) = symbol .weight + totalWeight block
-
 -- ---- the trellis
 
 -- the cost of a branch: the distance of its n outputs from the n symbols of its level
@@ -31,7 +25,7 @@ unfoldable pub branchCost : Code → List Seen → ℕ → ℕ → ℕ → ℕ
 branchCost c block level state b =
     distance (branchOutputs (generatorsOf c) (registerOf (c .memory) b state)) (drop (level * c .outputs) block)
 
--- L message steps of two inputs each, m tail steps
+-- 'A node below level L has two successors; from level L on, only input 0 is allowed': L message steps of two inputs, m tail steps
 abbrev pub trellisOf : Code → ℕ → List Seen → Trellis
 trellisOf c l block = record {
   span = l;
@@ -40,17 +34,3 @@ trellisOf c l block = record {
   next = (λ state b. nextState (c .memory) b state);
   price = branchCost c block;
 }
-
--- ---- limits
-
--- 'A block has N = n(L+m) symbols, at most 864.'
-abbrev pub longestBlock : ℕ
-longestBlock = mostOutputs * (longestMessage + mostMemory)
-
--- the weight of -128
-abbrev pub greatestWeight : ℕ
-greatestWeight = 128
-
--- 'at most the sum of all weights, so at most 110,592'
-abbrev pub greatestMetric : ℕ
-greatestMetric = greatestWeight * longestBlock

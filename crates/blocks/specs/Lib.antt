@@ -1,3 +1,4 @@
 pub mod Symbols
 pub mod Blocks
+pub mod Bounds
 pub mod Packed

@@ -1,5 +1,5 @@
 -- The block as plain numbers, one a place, as the program reads it; and what a branch's price asks of its caller.
--- Not for the reader: what the program answers is said of the view alone. That the numbers hold the view is Packing's, in proofs/.
+-- Not believed: what the program answers is said of the view alone. That the numbers hold the view is Packing's, in proofs/.
 -- Assumes nothing.
 use mathlib.Core.Path.{_≡_}
 use mathlib.Core.List.{List, map}
@@ -16,9 +16,11 @@ use Rattle.blocks.specs.Symbols.{Seen}
 abbrev pub pack : Seen → ℕ
 pack symbol = symbol .weight * 2 + symbol .hardBit
 
+-- what a number shows
 abbrev pub unpack : ℕ → Seen
 unpack x = record { hardBit = x % 2; weight = x / 2 }
 
+-- the numbers of a block
 unfoldable pub packed : List Seen → List ℕ
 packed block = map pack block
 
@@ -39,5 +41,6 @@ pub record Priceable (c : Code) (symbols level state input : ℕ) : Type 0 where
 abbrev pub greatestToll : ℕ
 greatestToll = 32767
 
+-- what a branch costs at most
 abbrev pub greatestPrice : ℕ
 greatestPrice = mostOutputs * greatestToll

@@ -15,6 +15,7 @@ ghost use Rattle.blocks.specs.Symbols.{Seen};
 ghost use Rattle.blocks.specs.Blocks.{branchCost, trellisOf};
 ghost use Rattle.blocks.specs.Packed.{seenIn, Priceable, greatestToll, greatestPrice};
 
+// 'A node below level L has two successors; from level L on, only input 0 is allowed'.
 const MESSAGE_INPUTS: u64 = 2;
 
 const TAIL_INPUTS: u64 = 1;

@@ -12,7 +12,7 @@ use Rattle.codes.specs.declared.table.Code.{Code}
 use Rattle.codes.specs.Limits.{shortestMessage, longestMessage}
 use Rattle.codes.specs.Codes.{from, blockLength}
 use Rattle.codes.proofs.Rules.{both, from-out}
-use Rattle.blocks.specs.Blocks.{totalWeight}
+use Rattle.blocks.specs.Bounds.{totalWeight}
 use Rattle.blocks.specs.Packed.{seenIn}
 use Rattle.blocks.proofs.Weights.{block-short}
 use Rattle.search.specs.Decoding.{sizesFit}

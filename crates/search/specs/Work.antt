@@ -12,7 +12,8 @@ use Rattle.trellis.specs.Trellis.{Trellis, Path}
 use Rattle.trellis.specs.Verdict.{Entry}
 use Rattle.trellis.specs.Sheet.{onto}
 use Rattle.trellis.specs.Search.{Row, rowAt, Tried, Outcome, found, full, spent, Ended}
-use Rattle.blocks.specs.Blocks.{trellisOf, totalWeight}
+use Rattle.blocks.specs.Blocks.{trellisOf}
+use Rattle.blocks.specs.Bounds.{totalWeight}
 use Rattle.blocks.specs.Packed.{seenIn}
 use Rattle.store.specs.Memory.{Stored, Shows}
 use Rattle.search.specs.Limits.{largestRoom, wordsPerNode, heaviest}

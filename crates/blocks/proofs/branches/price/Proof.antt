@@ -120,7 +120,8 @@ loop-again c =
     let a = w .before in
     let s = entry a in
     let first = s .args .level * s .args .code .outputs in
-    pricing-next (outputs a) (seenIn (s .args .seen .now)) first (a .loop .total) (a .loop .j) (a .loop .inv) (outputBit (a .before .with .result) 0) (unpack 0) (c .toll .result)
+    pricing-next (outputs a) (seenIn (s .args .seen .now)) first (a .loop .total) (a .loop .j) (a .loop .inv)
+    (outputBit (a .before .with .result) 0) (unpack 0) (c .toll .result)
     (omega (arith, counted a))
     (omega (arith, there w, length-seenIn (s .args .seen .now)))
     (c .toll .ensures .1)

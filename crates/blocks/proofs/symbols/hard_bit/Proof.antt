@@ -1,4 +1,4 @@
--- The hard bit, by the sign of the byte. Assumes nothing.
+-- `symbols::hard_bit` meets its contract, by the sign of the byte. Assumes nothing.
 use mathlib.Core.Path.{sym}
 use lib.IntN.{ℤ}
 use Rattle.blocks.proofs.Bytes.{byte-back, below-zero, not-below}

@@ -1,4 +1,4 @@
--- The weight, by the sign of the byte: it is widened, so that -128 can be turned round. Assumes nothing.
+-- `symbols::weight` meets its contract, by the sign of the byte: it is widened, so that -128 can be turned round. Assumes nothing.
 use mathlib.Core.Path.{_≡_}
 use lib.IntN.{ℤ, pos, _-ℤ_}
 use mir.Facts.{fits-natAbs}
@@ -16,6 +16,7 @@ module _ (c : tie.Then1) where
   fits : SFits w8 z
   fits = c .before .fits .symbol
 
+  -- it is below zero
   below : Below z
   below = below-zero z fits (rw (wide-back z fits) at (c .if1 .taken))
 
@@ -23,6 +24,7 @@ module _ (c : tie.Then1) where
   turned : toZ w32 (ofZ w32 (pos 0 -ℤ toZ w32 (ofZ w32 (toZ w8 (ofZ w8 z))))) ≡ pos 0 -ℤ z
   turned = rw (wide-back z fits) (toZ-ofZ w32 (pos 0 -ℤ z) (below .fits))
 
+-- it is not below zero
 level : (c : tie.Else1) → Level (c .before .args .symbol)
 level c = not-below (c .before .args .symbol) (rw (wide-back (c .before .args .symbol) (c .before .fits .symbol)) at (c .if1 .left))
 
@@ -36,7 +38,9 @@ cast-result : tie.Need-cast-result
 cast-result c = rw (turned c) (below c .up, fits-natAbs tt (below c .fits))
 
 cast-result-2 : tie.Need-cast-result-2
-cast-result-2 c = rw (wide-back (c .before .args .symbol) (c .before .fits .symbol)) (level c .up, fits-natAbs tt (wide-fits (c .before .args .symbol) (c .before .fits .symbol)))
+cast-result-2 c =
+    let s = c .before in
+    rw (wide-back (s .args .symbol) (s .fits .symbol)) (level c .up, fits-natAbs tt (wide-fits (s .args .symbol) (s .fits .symbol)))
 
 returns : tie.Need-returns
 returns c = rw (turned c) (below c .size)

@@ -8,6 +8,7 @@ use Rattle.blocks.proofs.Weights.{weight-byte, hardBit-bit}
 use Rattle.blocks.proofs.view.number.Statement.{statement}
 use Rattle.blocks.proofs.view.number.Tie as tie
 
+-- the weight is the definition's
 weighed : (c : tie.After-weight) → c .weight .result ≡ weight (c .before .args .symbol)
 weighed c = let s = c .before in c .weight .ensures ∙ ap weight (byte-back (s .args .symbol) (s .fits .symbol))
 
