@@ -46,7 +46,7 @@ unfoldable pub along : Trellis → (ℕ → ℕ → ℕ → ℕ) → Path → �
 along t f [] = 0
 along t f (b ∷ p) = along t f p + f (length p) (ends t p) b
 
--- 'A path's metric': the prices of its branches, added up
+-- 'A path's metric is the sum of the weights where its output differs from the hard bit': the prices of its branches, added up
 abbrev pub metric : Trellis → Path → ℕ
 metric t p = along t (t .price) p
 
@@ -62,9 +62,11 @@ pub record Node : Type 0 where
   pub level : ℕ
   pub state : ℕ
 
+-- the same, short
 abbrev pub node : ℕ → ℕ → Node
 node l s = record { level = l; state = s }
 
+-- one node: 'Level and every state bit count.'
 abbrev pub same : Node → Node → Bool
 same x y = eqb (x .level) (y .level) && eqb (x .state) (y .state)
 

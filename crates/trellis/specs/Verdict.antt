@@ -15,6 +15,7 @@ pub record Entry : Type 0 where
   pub cost : ℕ
   pub node : Node
 
+-- the same, short
 abbrev pub entry : ℕ → ℕ → ℕ → Entry
 entry c l s = record { cost = c; node = node l s }
 
@@ -49,15 +50,15 @@ unfoldable pub words : ℕ → ℕ → List (List ℕ)
 words inputs zero = [] ∷ []
 words inputs (suc k) = flatMap (λ w. map (λ b. b ∷ w) (below inputs)) (words inputs k)
 
--- the messages: L inputs each, the first first
+-- 'A message has L bits': all messages, each with its first input first
 unfoldable pub messages : Trellis → List (List ℕ)
 messages t = words (t .inputs) (t .span)
 
--- the path of a message: its inputs, then the zero tail
+-- 'After the L message bits come m zero bits': the path of a message, the latest input first as in every path
 unfoldable pub pathOf : Trellis → List ℕ → Path
 pathOf t w = replicate (t .tail) 0 ++ reverse w
 
--- the least metric of a message
+-- 'the least metric', that of a message
 unfoldable pub leastMetric : Trellis → ℕ
 leastMetric t = least (map (λ w. metric t (pathOf t w)) (messages t))
 
@@ -67,17 +68,18 @@ leastMessages t = keep (λ w. eqb (metric t (pathOf t w)) (leastMetric t)) (mess
 
 -- ---- the verdict
 
+-- the answers 0, 3, 4 and 5 with what each hands back
 pub data Verdict : Type 0 where
-  -- 0: the message, the least metric, E
+  -- 0: the message, its metric and E
   answered : (message : List ℕ) (metric steps : ℕ) → Verdict
-  -- 3: the steps done within the room
+  -- 3, room: 'steps: the greatest j with D(j) at most R, or 0 if none'
   roomShort : (steps : ℕ) → Verdict
-  -- 4: the steps done, B
+  -- 4, allowance: 'steps B'
   allowanceSpent : (steps : ℕ) → Verdict
-  -- 5: the least metric, E
+  -- 5, tied: 'least metric and steps E'
   tied : (metric steps : ℕ) → Verdict
 
--- 'the greatest j with D(j) at most R, or 0 if none', of the j up to k
+-- 'the greatest j with D(j) at most R, or 0 if none', of the j up to k; where D(k) is above R no greater j fits (proofs/LastFit)
 unfoldable pub lastFit : Trellis → ℕ → ℕ → ℕ
 lastFit t room zero = 0
 lastFit t room (suc k) = cond (leb (met t (suc k)) room) (suc k) (lastFit t room k)
