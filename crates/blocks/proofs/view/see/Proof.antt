@@ -1,12 +1,12 @@
--- `view::see` meets its contract: writing the numbers that are left over the buffer as it is gives all of them. Assumes nothing.
-use mathlib.Core.Path.{_≡_, refl, sym, ap, _∙_}
-use Prim.Native.Nat.{_+_, _-_, _*_, _≤_}
+-- `view::see` meets its contract: writing the numbers that are left over the buffer as it is gives all of them (the record Filling).
+-- Assumes nothing.
+use mathlib.Core.Path.{_≡_, sym, ap, _∙_}
+use Prim.Native.Nat.{_+_, _-_, _*_}
 use native.Mathlib.Nat.{zero-add}
 use native.Mathlib.Omega.{arith}
 use lib.IntN.{ℤ, pos}
-use lib.ListN.{length, getD, drop, length-set}
-use lib.Seq.{sets}
-use Rattle.lists.proofs.Writing.{sets-next, sets-done}
+use lib.ListN.{length, getD}
+use Rattle.lists.proofs.Writing.{Filling, filling-start, filling-next, filling-done}
 use Rattle.blocks.specs.Symbols.{hardBit, weight, view}
 use Rattle.blocks.specs.Packed.{packed}
 use Rattle.blocks.proofs.Bytes.{byte-back}
@@ -15,15 +15,13 @@ use Rattle.blocks.proofs.view.see.Statement.{statement}
 use Rattle.blocks.proofs.view.see.Tie as tie
 
 abbrev Inv-loop : tie.InvT-loop
-Inv-loop symbols seen₀ i₀ seen i =
-    (i ≤ length symbols) × (length seen ≡ length seen₀) ×
-    (sets seen i (drop i (packed (view symbols))) ≡ sets seen₀ 0 (packed (view symbols)))
+Inv-loop symbols seen₀ i₀ seen i = Filling seen₀ (packed (view symbols)) 0 seen i
 
 abbrev μ-loop : tie.MeasureT-loop
 μ-loop symbols seen₀ i₀ seen i = length symbols - i
 
 loop-holds : tie.Need-loop-holds Inv-loop μ-loop
-loop-holds c = (omega arith, refl, refl)
+loop-holds c = filling-start _ _ _
 
 shared-slice-copy-out-number : tie.Need-shared-slice-copy-out-number Inv-loop μ-loop
 shared-slice-copy-out-number c = omega arith
@@ -35,7 +33,7 @@ mul-seen : tie.Need-mul-seen Inv-loop μ-loop
 mul-seen c = omega arith
 
 slice-write-seen : tie.Need-slice-write-seen Inv-loop μ-loop
-slice-write-seen c = omega arith
+slice-write-seen c = omega (arith, c .before .before .before .loop .inv .kept)
 
 add-i : tie.Need-add-i Inv-loop μ-loop
 add-i c = omega arith
@@ -53,20 +51,16 @@ loop-again c =
     let v : c .number .result ≡ getD (packed (view symbols)) i 0 =
     c .number .ensures
     ∙ ap (λ (x : ℤ). weight x * 2 + hardBit x) (byte-back z (record { sfits = c .before .number-arg .given }))
-    ∙ sym (packed-at symbols i) in (
-      omega arith,
-      simp length-set (a .loop .inv .1),
-      rw v (sym (simp zero-add at (sets-next (a .loop .seen) (packed (view symbols)) 0 i 0 (omega (arith, length-packed symbols)))) ∙ a .loop .inv .2),
-    )
+    ∙ sym (packed-at symbols i) in
+    rw v (simp zero-add at (filling-next 0 (omega (arith, length-packed symbols)) (a .loop .inv)))
 
 same-length : tie.Need-same-length Inv-loop μ-loop
-same-length c = c .before .loop .inv .1
+same-length c = c .before .loop .inv .kept
 
 returns : tie.Need-returns Inv-loop μ-loop
 returns c =
     let a = c .before in
-    let symbols = a .before .before .args .symbols .now in
-    sym (simp zero-add at (sets-done (a .loop .seen) (packed (view symbols)) 0 (a .loop .i) (omega (arith, length-packed symbols)))) ∙ a .loop .inv .2
+    filling-done (omega (arith, length-packed (a .before .before .args .symbols .now), c .loop-test .left)) (a .loop .inv)
 
 pub see-spec : {M : Type 1} → statement M
 see-spec =

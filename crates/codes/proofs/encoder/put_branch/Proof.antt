@@ -1,20 +1,18 @@
--- `encoder::put_branch` meets its contract: writing the outputs that are left over the buffer as it is gives the whole branch.
--- Assumes nothing.
-use mathlib.Core.Path.{_≡_, refl, sym, ap, _∙_}
+-- `encoder::put_branch` meets its contract: writing the outputs that are left over the buffer as it is gives the whole branch (the
+-- record Filling). Assumes nothing.
+use mathlib.Core.Path.{_≡_, sym, ap, _∙_}
 use mathlib.Core.List.{List}
-use Prim.Native.Nat.{ℕ, _+_, _-_, _≤_}
+use Prim.Native.Nat.{ℕ, _-_}
 use native.Mathlib.Omega.{arith}
-use lib.ListN.{length, getD, take, drop, length-map, length-set, List·getD-map}
-use lib.Seq.{sets, length-take-le, getD-take}
-use Rattle.lists.proofs.Writing.{sets-next, sets-done}
+use lib.ListN.{length, getD, take, length-map, List·getD-map}
+use lib.Seq.{length-take-le, getD-take}
+use Rattle.lists.proofs.Writing.{Filling, filling-start, filling-next, filling-done}
 use Rattle.codes.specs.Codes.{outputBit, branchOutputs}
 use Rattle.codes.proofs.encoder.put_branch.Statement.{statement}
 use Rattle.codes.proofs.encoder.put_branch.Tie as tie
 
 abbrev Inv-loop : tie.InvT-loop
-Inv-loop n register out₀ at generators j₀ out j =
-    (j ≤ n) × (length out ≡ length out₀) ×
-    (sets out (at + j) (drop j (branchOutputs (take n generators) register)) ≡ sets out₀ at (branchOutputs (take n generators) register))
+Inv-loop n register out₀ at generators j₀ out j = Filling out₀ (branchOutputs (take n generators) register) at out j
 
 abbrev μ-loop : tie.MeasureT-loop
 μ-loop n register out₀ at generators j₀ out j = n - j
@@ -39,7 +37,7 @@ written c =
     ∙ sym (List·getD-map (outputBit (s .args .register)) (take (s .args .n) (s .args .t1)) j 0)
 
 loop-holds : tie.Need-loop-holds Inv-loop μ-loop
-loop-holds c = let e : c .before .args .at + 0 ≡ c .before .args .at = omega arith in (omega arith, refl, rw e)
+loop-holds c = filling-start _ _ _
 
 mul-output-bit : tie.Need-mul-output-bit Inv-loop μ-loop
 mul-output-bit c = omega arith
@@ -54,7 +52,7 @@ add-out : tie.Need-add-out Inv-loop μ-loop
 add-out c = omega arith
 
 slice-write-out : tie.Need-slice-write-out Inv-loop μ-loop
-slice-write-out c = omega arith
+slice-write-out c = omega (arith, c .before .before .loop .inv .kept)
 
 add-j : tie.Need-add-j Inv-loop μ-loop
 add-j c = omega arith
@@ -66,20 +64,15 @@ loop-again : tie.Need-loop-again Inv-loop μ-loop
 loop-again c =
     let a = c .before .before in
     let s = a .before .before in
-    let d = outputBit (s .args .register) 0 in (
-      omega arith,
-      simp length-set (a .loop .inv .1),
-      rw (written c) (sym (sets-next (a .loop .out) (branch s) (s .args .at) (a .loop .j) d (omega (arith, branch-length s))) ∙ a .loop .inv .2),
-    )
+    rw (written c) (filling-next (outputBit (s .args .register) 0) (omega (arith, branch-length s, c .before .loop-test .taken)) (a .loop .inv))
 
 same-length : tie.Need-same-length Inv-loop μ-loop
-same-length c = c .before .loop .inv .1
+same-length c = c .before .loop .inv .kept
 
 returns : tie.Need-returns Inv-loop μ-loop
 returns c =
     let a = c .before in
-    let s = a .before .before in
-    sym (sets-done (a .loop .out) (branch s) (s .args .at) (a .loop .j) (omega (arith, branch-length s))) ∙ a .loop .inv .2
+    filling-done (omega (arith, branch-length (a .before .before), c .loop-test .left)) (a .loop .inv)
 
 pub put-branch-spec : {M : Type 1} → statement M
 put-branch-spec =
