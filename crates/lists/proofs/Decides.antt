@@ -5,9 +5,9 @@ use mathlib.Core.List.{List}
 use mathlib.Core.Bool.{Bool, true, false, not, _&&_, _||_}
 use Prim.Native.Nat.{ℕ, _≤_, _<_}
 use lib.Dec.{T, eqb, ltb, leb, eqb→eq, eqb-refl, ltb→lt, lt→ltb, leb→le, le→leb}
-use Rattle.lists.specs.Lists.{_∈_, all, any}
+use Rattle.lists.specs.Lists.{all, any}
 use Rattle.lists.proofs.Tests.{and-in, and-out, true-out, false-out}
-use Rattle.lists.proofs.Membership.{Every, all-in, all-out, any-in, any-out}
+use Rattle.lists.proofs.Membership.{_∈_, Every, all-in, all-out, any-in, any-out}
 
 -- the test passes exactly if the statement holds
 pub record Decides (test : Bool) (P : Type 0) : Type 0 where

@@ -3,9 +3,9 @@ use mathlib.Core.Path.{_≡_}
 use mathlib.Core.List.{List, [], _∷_}
 use mathlib.Core.Bool.{Bool}
 use lib.Dec.{T}
-use Rattle.lists.specs.Lists.{_∈_, any, distinct}
+use Rattle.lists.specs.Lists.{any, distinct}
 use Rattle.lists.proofs.Tests.{test, true-out, false-out}
-use Rattle.lists.proofs.Membership.{here, further, member-cast, Within, any-in, any-out}
+use Rattle.lists.proofs.Membership.{_∈_, here, further, member-cast, Within, any-in, any-out}
 use Rattle.lists.proofs.Unique.{Unique}
 
 module _ {A : Type 0} where

@@ -4,8 +4,8 @@ use mathlib.Core.List.{List, [], _∷_}
 use Prim.Native.Nat.{ℕ, _≤_, min}
 use native.Mathlib.Decide.{decLe}
 use native.Mathlib.Omega.{arith}
-use Rattle.lists.specs.Lists.{_∈_, least}
-use Rattle.lists.proofs.Membership.{here, further, member-cast}
+use Rattle.lists.specs.Lists.{least}
+use Rattle.lists.proofs.Membership.{_∈_, here, further, member-cast}
 
 -- no member is below it
 pub least-le : (l : List ℕ) {a : ℕ} → a ∈ l → least l ≤ a

@@ -4,7 +4,7 @@
 -- map-in. Where a member stands in its list is not here. Assumes nothing.
 use mathlib.Core.Path.{_≡_, refl, sym, ap, _∙_, subst}
 use mathlib.Core.Logic.{_⊎_, inl, inr}
-use mathlib.Core.List.{List, [], _∷_, map, flatMap, reverse, reverseAux, Memᴰ·of-map}
+use mathlib.Core.List.{List, [], _∷_, map, flatMap, reverse, reverseAux, List·Memᴰ, Memᴰ·of-map}
 pub use mathlib.Core.List.{List·Memᴰ·head as here, List·Memᴰ·tail as further, Memᴰ·cast as member-cast, List·Memᴰ·not-nil as nil-out}
 pub use mathlib.Core.List.{List·Memᴰ·eq-of-singleton as singleton-out, List·Memᴰ·append-cases as append-out}
 pub use mathlib.Core.List.{Memᴰ·append-left as append-left, Memᴰ·append-right as append-right, Memᴰ·map as map-in}
@@ -15,8 +15,13 @@ use native.Mathlib.Decide.{ℕ-discrete}
 use native.Mathlib.Omega.{arith}
 use lib.Dec.{T}
 use lib.ListN.{length, take}
-use Rattle.lists.specs.Lists.{_∈_, all, any, keep, below}
+use Rattle.lists.specs.Lists.{all, any, keep, below}
 use Rattle.lists.proofs.Tests.{test, and-in, and-out, or-left, or-right, or-out, true-out, false-out}
+
+-- a member of a list: the kit's, by a sign
+infix 20 _∈_
+abbrev pub _∈_ {ℓ} : {A : Type ℓ} → A → List A → Type ℓ
+a ∈ l = List·Memᴰ a l
 
 module _ {A : Type 0} where
   -- every member has P

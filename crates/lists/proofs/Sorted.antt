@@ -7,9 +7,9 @@ use mathlib.Core.Bool.{Bool}
 use Prim.Native.Nat.{ℕ, zero, suc}
 use lib.Dec.{T}
 use lib.ListN.{take}
-use Rattle.lists.specs.Lists.{_∈_, keep, insert, sort}
+use Rattle.lists.specs.Lists.{keep, insert, sort}
 use Rattle.lists.proofs.Tests.{test, true-out, false-out}
-use Rattle.lists.proofs.Membership.{here, further, nil-out, append-right, Every, Within, every-cons, take-out, keep-yes, keep-none}
+use Rattle.lists.proofs.Membership.{_∈_, here, further, nil-out, append-right, Every, Within, every-cons, take-out, keep-yes, keep-none}
 use Rattle.lists.proofs.Unique.{Unique}
 
 module _ {A : Type 0} (less : A → A → Bool) where

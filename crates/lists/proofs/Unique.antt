@@ -9,9 +9,9 @@ use native.Mathlib.Nat.{le-antisymm}
 use native.Mathlib.Omega.{arith}
 use lib.Dec.{T}
 use lib.ListN.{length}
-use Rattle.lists.specs.Lists.{_∈_, keep, below}
+use Rattle.lists.specs.Lists.{keep, below}
 use Rattle.lists.proofs.Tests.{test}
-use Rattle.lists.proofs.Membership.{here, further, append-out, member-cast, Within, keep-yes, keep-no, keep-out, below-out}
+use Rattle.lists.proofs.Membership.{_∈_, here, further, append-out, member-cast, Within, keep-yes, keep-no, keep-out, below-out}
 use Rattle.lists.proofs.Membership.{Mapped, map-out, FlatMapped, flatMap-out}
 
 module _ {A : Type 0} where

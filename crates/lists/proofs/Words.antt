@@ -3,8 +3,8 @@
 use mathlib.Core.Path.{_≡_}
 use mathlib.Core.List.{List, _∷_, map, flatMap}
 use Prim.Native.Nat.{ℕ, _<_}
-use Rattle.lists.specs.Lists.{_∈_, below}
-use Rattle.lists.proofs.Membership.{map-in, map-out, flatMap-in, flatMap-out, below-in, below-out}
+use Rattle.lists.specs.Lists.{below}
+use Rattle.lists.proofs.Membership.{_∈_, map-in, map-out, flatMap-in, flatMap-out, below-in, below-out}
 use Rattle.lists.proofs.Unique.{Unique, map-unique, flatMap-unique, below-unique}
 
 -- every list of ps, each number below n put before it

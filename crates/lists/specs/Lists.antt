@@ -1,15 +1,9 @@
 -- The few functions on lists that our definitions are written with and the kit lacks: tests over a list, choice by a test,
 -- numbers below a bound, distinct members, sorting, the least of a list. All of them compute.
 -- Their laws are not here: they stand in proofs/, a file for each notion. Assumes nothing.
-use mathlib.Core.List.{List, [], _∷_, List·Memᴰ}
+use mathlib.Core.List.{List, [], _∷_}
 use mathlib.Core.Bool.{Bool, true, false, cond, _&&_, _||_}
 use Prim.Native.Nat.{ℕ, zero, suc, min}
-
--- ---- members
-
-infix 20 _∈_
-abbrev pub _∈_ {ℓ} : {A : Type ℓ} → A → List A → Type ℓ
-a ∈ l = List·Memᴰ a l
 
 module _ {A : Type 0} where
   -- every member passes the test

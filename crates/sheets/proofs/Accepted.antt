@@ -9,8 +9,7 @@ use native.Mathlib.Omega.{arith}
 use lib.IntN.{ℤ}
 use lib.ListN.{length, take, drop}
 use lib.Seq.{take-at}
-use Rattle.lists.specs.Lists.{_∈_}
-use Rattle.lists.proofs.Membership.{nil-out, Every, every-cons}
+use Rattle.lists.proofs.Membership.{_∈_, nil-out, Every, every-cons}
 use Rattle.codes.specs.declared.table.Code.{Code}
 use Rattle.codes.specs.Codes.{lawful}
 use Rattle.trellis.specs.Trellis.{Trellis}

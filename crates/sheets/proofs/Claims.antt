@@ -10,9 +10,9 @@ use native.Mathlib.Decide.{decLe}
 use native.Mathlib.Omega.{arith}
 use borrow.Author.Tests.{lt-ltb, le-ltb}
 use lib.ListN.{length, getD}
-use Rattle.lists.specs.Lists.{_∈_, all}
+use Rattle.lists.specs.Lists.{all}
 use Rattle.lists.proofs.Tests.{true-in}
-use Rattle.lists.proofs.Membership.{Every}
+use Rattle.lists.proofs.Membership.{_∈_, Every}
 use Rattle.lists.proofs.Sorted.{Sorted}
 use Rattle.lists.proofs.Decides.{Decides, said, both, whenever, equal, less}
 use Rattle.codes.specs.declared.table.Code.{Code}

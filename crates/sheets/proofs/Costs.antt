@@ -6,9 +6,8 @@ use Prim.Native.Nat.{ℕ, suc, _≤_, _<_}
 use native.Mathlib.Omega.{arith}
 use lib.Dec.{T, eqb, leb}
 use lib.ListN.{length, getD}
-use Rattle.lists.specs.Lists.{_∈_}
 use Rattle.lists.proofs.Tests.{test, true-out, false-out}
-use Rattle.lists.proofs.Membership.{here, further, member-cast}
+use Rattle.lists.proofs.Membership.{_∈_, here, further, member-cast}
 use Rattle.lists.proofs.Sorted.{Sorted}
 use Rattle.lists.proofs.Decides.{Decides, said, equal, atMost}
 use Rattle.trellis.specs.Trellis.{Node, same}

@@ -8,8 +8,7 @@ use native.Mathlib.Nat.{add-suc, add-zero}
 use native.Mathlib.Omega.{arith}
 use lib.ListN.{length, getD, replicate, List·getD-eq-default}
 use lib.Pow.{pow-mono}
-use Rattle.lists.specs.Lists.{_∈_}
-use Rattle.lists.proofs.Membership.{here, further, singleton-out, Every, eq-or-lt}
+use Rattle.lists.proofs.Membership.{_∈_, here, further, singleton-out, Every, eq-or-lt}
 use Rattle.codes.specs.Codes.{nextState}
 use Rattle.trellis.specs.Trellis.{Trellis, Path, top}
 use Rattle.trellis.specs.Verdict.{pathOf}

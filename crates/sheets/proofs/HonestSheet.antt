@@ -11,9 +11,9 @@ use lib.Dec.{T, leb, ltb, le→leb, lt→ltb}
 use lib.IntN.{ℤ}
 use lib.ListN.{length, getD, drop, List·getD-eq-default}
 use lib.Pow.{pow-mono}
-use Rattle.lists.specs.Lists.{_∈_, all}
+use Rattle.lists.specs.Lists.{all}
 use Rattle.lists.proofs.Tests.{true-out, and-in}
-use Rattle.lists.proofs.Membership.{here, Every, all-in, member-length}
+use Rattle.lists.proofs.Membership.{_∈_, here, Every, all-in, member-length}
 use Rattle.codes.specs.declared.table.Code.{Code}
 use Rattle.codes.specs.Codes.{from}
 use Rattle.codes.proofs.Rules.{lawful-out}

@@ -10,9 +10,8 @@ use native.Mathlib.Omega.{arith}
 use lib.Dec.{T}
 use lib.ListN.{length, getD, take, drop, length-drop}
 use lib.Seq.{drop-cons, take-all}
-use Rattle.lists.specs.Lists.{_∈_}
 use Rattle.lists.proofs.Tests.{true-in}
-use Rattle.lists.proofs.Membership.{here, further, nil-out, every-cons}
+use Rattle.lists.proofs.Membership.{_∈_, here, further, nil-out, every-cons}
 use Rattle.lists.proofs.Lexicographic.{compared}
 use Rattle.lists.proofs.Sorted.{Sorted}
 use Rattle.lists.proofs.Decides.{Decides, said, both}

@@ -7,8 +7,7 @@ use Prim.Native.Nat.{ℕ, _≤_, min}
 use native.Mathlib.Omega.{arith}
 use borrow.Author.Tests.{ltb-false}
 use lib.Dec.{ltb}
-use Rattle.lists.specs.Lists.{_∈_}
-use Rattle.lists.proofs.Membership.{here, singleton-out, only-member, map-in, map-out}
+use Rattle.lists.proofs.Membership.{_∈_, here, singleton-out, only-member, map-in, map-out}
 use Rattle.lists.proofs.Least.{least-le, least-of}
 use Rattle.lists.proofs.Unique.{length-within}
 use Rattle.trellis.specs.Trellis.{Trellis}

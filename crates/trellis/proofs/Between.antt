@@ -10,8 +10,8 @@ use native.Mathlib.Decide.{decLt}
 use native.Mathlib.Omega.{arith}
 use lib.Dec.{T}
 use lib.ListN.{length, take}
-use Rattle.lists.specs.Lists.{_∈_, keep}
-use Rattle.lists.proofs.Membership.{nil-out, member-cast, take-out, Kept, keep-in, keep-out}
+use Rattle.lists.specs.Lists.{keep}
+use Rattle.lists.proofs.Membership.{_∈_, nil-out, member-cast, take-out, Kept, keep-in, keep-out}
 use Rattle.lists.proofs.Unique.{keep-unique}
 use Rattle.trellis.specs.Trellis.{Trellis, terminal}
 use Rattle.trellis.specs.Verdict.{Entry, entry, priced, before, ranked, met}

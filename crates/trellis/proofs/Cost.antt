@@ -6,8 +6,8 @@ use Prim.Native.Nat.{ℕ, _≤_}
 use native.Mathlib.Omega.{arith}
 use lib.Dec.{eqb, eqb→eq, eqb-refl}
 use lib.ListN.{length}
-use Rattle.lists.specs.Lists.{_∈_, keep}
-use Rattle.lists.proofs.Membership.{map-in, map-out, keep-in, keep-out}
+use Rattle.lists.specs.Lists.{keep}
+use Rattle.lists.proofs.Membership.{_∈_, map-in, map-out, keep-in, keep-out}
 use Rattle.lists.proofs.Unique.{Unique, keep-unique, same-length}
 use Rattle.lists.proofs.Least.{least-le, least-of}
 use Rattle.trellis.specs.Trellis.{Trellis, Path, Node, origin, along, metric, ends, pathsTo, cost}

@@ -8,8 +8,7 @@ use Prim.Native.Nat.{ℕ, zero, suc, _+_, _≤_, _<_, min}
 use native.Mathlib.Decide.{ℕ-discrete}
 use native.Mathlib.Omega.{arith}
 use lib.ListN.{length, take, length-set}
-use Rattle.lists.specs.Lists.{_∈_}
-use Rattle.lists.proofs.Membership.{here, singleton-out, append-out, append-left, append-right, member-cast}
+use Rattle.lists.proofs.Membership.{_∈_, here, singleton-out, append-out, append-left, append-right, member-cast}
 use Rattle.trellis.specs.Trellis.{Trellis, terminal, allowed}
 use Rattle.trellis.specs.Verdict.{Entry, priced, ranked, met}
 use Rattle.trellis.specs.Sheet.{onto}

@@ -10,8 +10,7 @@ use native.Mathlib.Omega.{arith}
 use lib.Dec.{leb}
 use borrow.Author.Tests.{le-leb, lt-leb}
 use lib.ListN.{length}
-use Rattle.lists.specs.Lists.{_∈_}
-use Rattle.lists.proofs.Membership.{only-member}
+use Rattle.lists.proofs.Membership.{_∈_, only-member}
 use Rattle.trellis.specs.Trellis.{Trellis, Path, Node, top, terminal}
 use Rattle.trellis.specs.Verdict.{steps, leastMetric, leastMessages, answered, tied, decided}
 use Rattle.trellis.specs.Lawful.{Lawful, messageOf}

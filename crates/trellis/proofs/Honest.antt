@@ -6,8 +6,8 @@ use mathlib.Core.Bool.{Bool}
 use Prim.Native.Nat.{ℕ, _≤_}
 use native.Mathlib.Omega.{arith}
 use lib.Dec.{leb, leb→le, le→leb}
-use Rattle.lists.specs.Lists.{_∈_, keep, sort}
-use Rattle.lists.proofs.Membership.{member-cast, Every, map-in, map-out, keep-in, keep-out}
+use Rattle.lists.specs.Lists.{keep, sort}
+use Rattle.lists.proofs.Membership.{_∈_, member-cast, Every, map-in, map-out, keep-in, keep-out}
 use Rattle.lists.proofs.Unique.{keep-unique}
 use Rattle.lists.proofs.Sorted.{Sorted, sort-in, sort-out, sort-sorted}
 use Rattle.lists.proofs.Images.{keep-map, sort-map, map-sorted}

@@ -7,8 +7,7 @@ use Prim.Native.Nat.{suc, _≤_}
 use native.Mathlib.Omega.{arith}
 use lib.Dec.{T}
 use lib.ListN.{length, take, length-take}
-use Rattle.lists.specs.Lists.{_∈_}
-use Rattle.lists.proofs.Membership.{here, append-out, append-right, singleton-out, Every, Within, take-out}
+use Rattle.lists.proofs.Membership.{_∈_, here, append-out, append-right, singleton-out, Every, Within, take-out}
 use Rattle.lists.proofs.Unique.{same-length}
 use Rattle.lists.proofs.Sorted.{Sorted, take-sorted, take-or-after, sorted-append, irreflexive-unique}
 use Rattle.trellis.specs.Trellis.{Trellis, terminal}

@@ -8,8 +8,7 @@ use Prim.Native.Nat.{ℕ, suc, _≤_, _<_}
 use native.Mathlib.Decide.{ℕ-discrete}
 use native.Mathlib.Omega.{arith}
 use lib.ListN.{length, take, length-take, length-map}
-use Rattle.lists.specs.Lists.{_∈_}
-use Rattle.lists.proofs.Membership.{here, append-left, append-right, append-out, singleton-out, member-cast, map-in}
+use Rattle.lists.proofs.Membership.{_∈_, here, append-left, append-right, append-out, singleton-out, member-cast, map-in}
 use Rattle.lists.proofs.Unique.{length-within}
 use Rattle.trellis.specs.Trellis.{Trellis, terminal}
 use Rattle.trellis.specs.Verdict.{Entry, entry, ranked, steps, met, leastMetric}

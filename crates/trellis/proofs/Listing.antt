@@ -7,7 +7,7 @@ use Prim.Native.Nat.{ℕ, zero, suc, _<_}
 use native.Mathlib.Omega.{arith}
 use lib.Dec.{T}
 use lib.ListN.{length, getD}
-use Rattle.lists.specs.Lists.{_∈_}
+use Rattle.lists.proofs.Membership.{_∈_}
 use Rattle.lists.proofs.Lexicographic.{compared}
 use Rattle.lists.proofs.Sorted.{Sorted}
 use Rattle.trellis.specs.Trellis.{Trellis, Node, origin}

@@ -8,8 +8,8 @@ use native.Mathlib.Omega.{arith}
 use lib.Dec.{eqb, eqb→eq, eqb-refl}
 use lib.ListN.{length, drop, replicate, length-append, length-replicate, length-reverse, length-drop, length-map}
 use lib.Seq.{drop-at}
-use Rattle.lists.specs.Lists.{_∈_, least}
-use Rattle.lists.proofs.Membership.{here, further, nil-out, singleton-out, member-cast, Every, every-cons, member-length}
+use Rattle.lists.specs.Lists.{least}
+use Rattle.lists.proofs.Membership.{_∈_, here, further, nil-out, singleton-out, member-cast, Every, every-cons, member-length}
 use Rattle.lists.proofs.Membership.{keep-in, keep-out, map-in, map-out, reverse-out}
 use Rattle.lists.proofs.Unique.{Unique, keep-unique, map-unique}
 use Rattle.lists.proofs.Least.{least-le, least-of}

@@ -8,8 +8,8 @@ use native.Mathlib.Omega.{arith}
 use lib.Dec.{T}
 use lib.ListN.{length, take, drop, length-map, length-take, length-append, take-append-drop}
 use lib.Seq.{take-suc}
-use Rattle.lists.specs.Lists.{_∈_, keep, distinct}
-use Rattle.lists.proofs.Membership.{here, further, member-cast, append-right, Every, Within, take-out, take-more, keep-in}
+use Rattle.lists.specs.Lists.{keep, distinct}
+use Rattle.lists.proofs.Membership.{_∈_, here, further, member-cast, append-right, Every, Within, take-out, take-more, keep-in}
 use Rattle.lists.proofs.Membership.{Mapped, map-out, FlatMapped, flatMap-in, flatMap-out}
 use Rattle.lists.proofs.Unique.{Unique, map-unique, length-within, same-length}
 use Rattle.lists.proofs.Distinct.{distinct-in, distinct-out, distinct-unique}

@@ -3,8 +3,7 @@ use mathlib.Core.Path.{_≡_, refl, ap, subst}
 use mathlib.Core.List.{List, [], _∷_}
 use Prim.Native.Nat.{ℕ, _≤_}
 use native.Mathlib.Omega.{arith}
-use Rattle.lists.specs.Lists.{_∈_}
-use Rattle.lists.proofs.Membership.{here, further, singleton-out}
+use Rattle.lists.proofs.Membership.{_∈_, here, further, singleton-out}
 use Rattle.trellis.specs.Trellis.{Trellis, Path, along, metric}
 use Rattle.trellis.specs.Lawful.{Allowed, start, step}
 

@@ -7,9 +7,9 @@ use native.Mathlib.Omega.{arith}
 use lib.Dec.{T, eqb, ltb, eqb→eq, eqb-refl, ltb→lt}
 use borrow.Author.Tests.{lt-ltb, le-ltb, ltb-false}
 use lib.ListN.{length}
-use Rattle.lists.specs.Lists.{_∈_, below}
+use Rattle.lists.specs.Lists.{below}
 use Rattle.lists.proofs.Tests.{and-in, and-out, test, false-out}
-use Rattle.lists.proofs.Membership.{here, nil-out, singleton-out, member-cast, keep-in, keep-out, map-in, map-out, flatMap-in, flatMap-out, below-in}
+use Rattle.lists.proofs.Membership.{_∈_, here, nil-out, singleton-out, member-cast, keep-in, keep-out, map-in, map-out, flatMap-in, flatMap-out, below-in}
 use Rattle.lists.proofs.Unique.{Unique, keep-unique}
 use Rattle.lists.proofs.Distinct.{Equality, distinct-in, distinct-out, distinct-unique}
 use Rattle.lists.proofs.Words.{grown-in, grown-out, grown-unique}

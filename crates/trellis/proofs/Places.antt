@@ -5,8 +5,7 @@ use Prim.Native.Nat.{ℕ, zero, suc, _<_}
 use native.Mathlib.Nat.{suc-inj}
 use native.Mathlib.Omega.{arith}
 use lib.ListN.{length, getD}
-use Rattle.lists.specs.Lists.{_∈_}
-use Rattle.lists.proofs.Membership.{here, further, map-out, Mapped}
+use Rattle.lists.proofs.Membership.{_∈_, here, further, map-out, Mapped}
 use Rattle.lists.proofs.Unique.{Unique}
 
 module _ {A : Type 0} (d : A) where

@@ -5,8 +5,7 @@ use mathlib.Core.Path.{_≡_, refl, sym, ap, subst}
 use mathlib.Core.List.{map}
 use Prim.Native.Nat.{ℕ, _<_}
 use lib.Dec.{T}
-use Rattle.lists.specs.Lists.{_∈_}
-use Rattle.lists.proofs.Membership.{member-cast, map-in, map-out}
+use Rattle.lists.proofs.Membership.{_∈_, member-cast, map-in, map-out}
 use Rattle.lists.proofs.Unique.{Unique, map-unique}
 use Rattle.lists.proofs.Sorted.{Sorted, sort-in, sort-out, sort-sorted, sorted-unique}
 use Rattle.trellis.specs.Trellis.{Trellis, allowed, reachable}

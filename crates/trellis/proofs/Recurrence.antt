@@ -7,8 +7,8 @@ use Prim.Native.Nat.{ℕ, suc, _+_, _≤_, _<_}
 use native.Mathlib.Omega.{arith}
 use lib.Dec.{T}
 use lib.ListN.{length}
-use Rattle.lists.specs.Lists.{_∈_, keep, below, least}
-use Rattle.lists.proofs.Membership.{member-cast, keep-in, keep-out, map-in, map-out, flatMap-in, flatMap-out, below-in, below-out}
+use Rattle.lists.specs.Lists.{keep, below, least}
+use Rattle.lists.proofs.Membership.{_∈_, member-cast, keep-in, keep-out, map-in, map-out, flatMap-in, flatMap-out, below-in, below-out}
 use Rattle.lists.proofs.Least.{least-le, least-of}
 use Rattle.trellis.specs.Trellis.{Trellis, Path, Node, node, allowed, ends, along, metric, endNode, same, origin, reachable, cost, successors}
 use Rattle.trellis.specs.Lawful.{Allowed, step}

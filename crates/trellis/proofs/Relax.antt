@@ -7,8 +7,7 @@ use mathlib.Core.Bool.{Bool, true, false, true≢false}
 use Prim.Native.Nat.{ℕ, suc, _≤_, _<_, min}
 use native.Mathlib.Omega.{arith}
 use lib.ListN.{length, take, length-set, length-append}
-use Rattle.lists.specs.Lists.{_∈_}
-use Rattle.lists.proofs.Membership.{here, further, member-cast, eq-or-lt, take-out}
+use Rattle.lists.proofs.Membership.{_∈_, here, further, member-cast, eq-or-lt, take-out}
 use Rattle.trellis.specs.Trellis.{Trellis, Node, allowed}
 use Rattle.trellis.specs.Verdict.{Entry, ranked, met}
 use Rattle.trellis.specs.Search.{Row, rowAt, entryAt, nodeAt, costAt, added, lowered, gained, joined, Tried, arrival, relax}

@@ -6,8 +6,7 @@ use mathlib.Core.List.{List, _∷_, map}
 use Prim.Native.Nat.{ℕ, zero, suc, _≤_, _<_}
 use native.Mathlib.Omega.{arith}
 use lib.ListN.{length, length-map}
-use Rattle.lists.specs.Lists.{_∈_}
-use Rattle.lists.proofs.Membership.{here, further, member-cast, Within, map-in, map-out, Mapped}
+use Rattle.lists.proofs.Membership.{_∈_, here, further, member-cast, Within, map-in, map-out, Mapped}
 use Rattle.lists.proofs.Unique.{Unique}
 use Rattle.trellis.specs.Trellis.{Trellis, Node, origin}
 use Rattle.trellis.specs.Verdict.{Entry, met}

@@ -8,9 +8,8 @@ use Prim.Native.Nat.{ℕ, zero, suc, _+_, _≤_, _<_}
 use native.Mathlib.Omega.{arith}
 use lib.Dec.{T}
 use lib.ListN.{length, take}
-use Rattle.lists.specs.Lists.{_∈_}
 use Rattle.lists.proofs.Tests.{test, true-out, false-out}
-use Rattle.lists.proofs.Membership.{singleton-out, append-out}
+use Rattle.lists.proofs.Membership.{_∈_, singleton-out, append-out}
 use Rattle.trellis.specs.Trellis.{Trellis, Node, same, terminal}
 use Rattle.trellis.specs.Verdict.{Entry, priced, ranked, steps, met}
 use Rattle.trellis.specs.Lawful.{Lawful}

@@ -8,8 +8,9 @@ use Prim.Native.Nat.{ℕ, zero, suc, _+_, _<_, min}
 use native.Mathlib.Omega.{arith}
 use lib.Dec.{eqb}
 use lib.ListN.{length, length-append, length-map}
-use Rattle.lists.specs.Lists.{_∈_, keep}
-use Rattle.lists.proofs.Membership.{here, nil-out, append-out, singleton-out, append-left, append-right, map-in, map-out, flatMap-in, flatMap-out, FlatMapped}
+use Rattle.lists.specs.Lists.{keep}
+use Rattle.lists.proofs.Membership.{_∈_, here, nil-out, append-out, singleton-out, append-left, append-right}
+use Rattle.lists.proofs.Membership.{map-in, map-out, flatMap-in, flatMap-out, FlatMapped}
 use Rattle.lists.proofs.Unique.{Unique, append-unique, map-unique, flatMap-unique}
 use Rattle.trellis.specs.Trellis.{Trellis, Path, Node, origin, allowed, ends, along, metric, endNode, pathsTo, cost}
 use Rattle.trellis.specs.Verdict.{Entry, entry}

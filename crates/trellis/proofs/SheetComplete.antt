@@ -8,8 +8,7 @@ use Prim.Native.Nat.{ℕ, _+_, _≤_, _<_}
 use native.Mathlib.Decide.{decLt}
 use native.Mathlib.Omega.{arith}
 use lib.Dec.{T}
-use Rattle.lists.specs.Lists.{_∈_}
-use Rattle.lists.proofs.Membership.{here, further, singleton-out}
+use Rattle.lists.proofs.Membership.{_∈_, here, further, singleton-out}
 use Rattle.lists.proofs.Tests.{true-out}
 use Rattle.trellis.specs.Trellis.{Trellis, Path, Node, node, ends, along, metric, endNode, terminal, cost}
 use Rattle.trellis.specs.Verdict.{Entry, entry, priced, pathOf, leastMetric, leastMessages}

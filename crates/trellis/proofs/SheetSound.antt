@@ -10,9 +10,8 @@ use native.Mathlib.Nat.{suc-inj}
 use native.Mathlib.Decide.{ℕ-discrete, decLt}
 use native.Mathlib.Omega.{arith}
 use lib.ListN.{length}
-use Rattle.lists.specs.Lists.{_∈_}
 use Rattle.lists.proofs.Tests.{true-in}
-use Rattle.lists.proofs.Membership.{here, nil-out, every-cons}
+use Rattle.lists.proofs.Membership.{_∈_, here, nil-out, every-cons}
 use Rattle.trellis.specs.Trellis.{Trellis, Path, Node, node, terminal, ends, along, metric, endNode}
 use Rattle.trellis.specs.Verdict.{Entry, messages, pathOf, leastMetric, leastMessages}
 use Rattle.trellis.specs.Sheet.{onto, carries}

@@ -7,8 +7,8 @@ use mathlib.Core.List.{List, [], _∷_}
 use mathlib.Core.Bool.{Bool, _&&_}
 use Prim.Native.Nat.{ℕ, _≤_, _<_}
 use native.Mathlib.Omega.{arith}
-use Rattle.lists.specs.Lists.{_∈_, below}
-use Rattle.lists.proofs.Membership.{here, further, nil-out, member-cast, Every, every-cons, below-in, below-out}
+use Rattle.lists.specs.Lists.{below}
+use Rattle.lists.proofs.Membership.{_∈_, here, further, nil-out, member-cast, Every, every-cons, below-in, below-out}
 use Rattle.lists.proofs.Decides.{Decides, said, both, either, whenever, each, some, equal, less, atMost}
 use Rattle.trellis.specs.Trellis.{Trellis, Path, Node, same, allowed, ends, along, metric, endNode}
 use Rattle.trellis.specs.Verdict.{Entry, entry}

@@ -8,8 +8,7 @@ use Prim.Native.Nat.{ℕ, zero, suc, _≤_, _<_}
 use native.Mathlib.Omega.{arith}
 use lib.Dec.{T}
 use lib.ListN.{take}
-use Rattle.lists.specs.Lists.{_∈_}
-use Rattle.lists.proofs.Membership.{here, further, nil-out, member-cast, eq-or-lt}
+use Rattle.lists.proofs.Membership.{_∈_, here, further, nil-out, member-cast, eq-or-lt}
 use Rattle.lists.proofs.Sorted.{Sorted}
 use Rattle.trellis.specs.Trellis.{Trellis, Path, Node, origin, allowed, ends, along, metric, endNode, cost}
 use Rattle.trellis.specs.Verdict.{Entry, entry, priced, before, ranked}

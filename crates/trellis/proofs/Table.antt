@@ -9,9 +9,9 @@ use native.Mathlib.Decide.{ℕ-discrete, decLt}
 use native.Mathlib.Omega.{arith}
 use lib.Dec.{T, eqb, eqb→eq, eqb-refl}
 use lib.ListN.{length, take}
-use Rattle.lists.specs.Lists.{_∈_, keep}
+use Rattle.lists.specs.Lists.{keep}
 use Rattle.lists.proofs.Tests.{and-in, and-out}
-use Rattle.lists.proofs.Membership.{here, further, member-cast, keep-yes, keep-no, keep-none}
+use Rattle.lists.proofs.Membership.{_∈_, here, further, member-cast, keep-yes, keep-no, keep-none}
 use Rattle.lists.proofs.Unique.{Unique}
 use Rattle.lists.proofs.Distinct.{Equality}
 use Rattle.trellis.specs.Trellis.{Trellis, Node, same, terminal, allowed}
