@@ -25,6 +25,7 @@ halved m k s h =
     rw (pow-suc 2 k, mul-comm (2 ^ k) 2, ← mul-assoc (nextState m 0 s) 2 (2 ^ k)) (omega arith)
 
 module _ (c : Code) (l : ℕ) (block : List Seen) where
+  -- the trellis in question
   abbrev t : Trellis
   t = trellisOf c l block
 

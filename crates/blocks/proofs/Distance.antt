@@ -60,6 +60,7 @@ reverse-zeros zero p = refl
 reverse-zeros (suc k) p = reverse-zeros k (0 ∷ p) ∙ zeros-shift k p
 
 module _ (c : Code) (l : ℕ) (block : List Seen) (full : c .outputs ≤ length (c .generators)) where
+  -- the trellis in question
   abbrev t : Trellis
   t = trellisOf c l block
 

@@ -19,6 +19,7 @@ pub length-packed : (symbols : List ℤ) → length (packed (view symbols)) ≡ 
 unfolding packed view
 length-packed symbols = length-map (view symbols) pack ∙ length-map symbols _
 
+-- and one symbol a number
 pub length-seenIn : (numbers : List ℕ) → length (seenIn numbers) ≡ length numbers
 unfolding seenIn
 length-seenIn numbers = length-map numbers unpack

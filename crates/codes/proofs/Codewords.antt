@@ -66,20 +66,24 @@ pub record Writing (generators : List ℕ) (m : ℕ) (bits first out : List ℕ)
 
 module _ (generators : List ℕ) (m : ℕ) (bits first out : List ℕ) (s at i : ℕ)
     (w : Writing generators m bits first out s at i) (more : i < length bits) where
+  -- the bit of the turn
   abbrev bit : ℕ
   bit = getD bits i 0
 
+  -- the outputs that it gives
   abbrev branch : List ℕ
   branch = branchOutputs generators (registerOf m bit s)
 
-  -- what is left is the branch and the rest, and so long
+  -- what is left is the branch and the rest
   next-outputs : outputsFrom generators m s (drop i bits) ≡ branch ++ outputsFrom generators m (nextState m bit s) (drop (i + 1) bits)
   unfolding outputsFrom
   next-outputs = rw (drop-cons bits i 0 more, add-one)
 
+  -- and those behind them
   abbrev rest : List ℕ
   rest = outputsFrom generators m (nextState m bit s) (drop (i + 1) bits)
 
+  -- so many symbols are left
   next-length : length (outputsFrom generators m s (drop i bits)) ≡ length generators + length rest
   next-length =
       ap length next-outputs

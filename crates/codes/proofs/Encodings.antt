@@ -17,19 +17,23 @@ use Rattle.codes.specs.declared.encoder.Encoded.the-variants.{Done, BadC
 
 -- for whoever made the tests: each row, where the tests before it passed
 module _ (c : Code) (message out : List ℕ) where
+  -- 1: 'code outside the table rules'
   pub encoding-bad-code : lawful c ≡ false → encoding c message out ≡ handed 1 0 out
   unfolding encoding
   encoding-bad-code h = rw h
 
+  -- 2: L is not as stated, or the buffer too short
   pub encoding-bad-size : lawful c ≡ true → sizesFit c (length message) (length out) ≡ false → encoding c message out ≡ handed 2 0 out
   unfolding encoding
   encoding-bad-size h k = rw (h, k)
 
+  -- 6: 'malformed: message byte above 1'
   pub encoding-malformed : lawful c ≡ true → sizesFit c (length message) (length out) ≡ true → all isBit message ≡ false
       → encoding c message out ≡ handed 6 0 out
   unfolding encoding
   encoding-malformed h k b = rw (h, k, b)
 
+  -- 0: the codeword, the excess untouched
   pub encoding-done : Encodable c message (length out)
       → encoding c message out ≡ handed 0 (blockLength c (length message)) (codeword c message ++ drop (blockLength c (length message)) out)
   unfolding encoding

@@ -9,6 +9,7 @@ use Rattle.codes.specs.Codes.{lawful}
 use Rattle.codes.specs.Encoding.{sizesFit, isBit}
 use Rattle.codes.specs.declared.table.Code.{Code}
 
+-- what `encode` has tested before it writes
 pub record Encodable (c : Code) (message : List ℕ) (room : ℕ) : Type 0 where
   pub code : lawful c ≡ true
   pub sizes : sizesFit c (length message) room ≡ true

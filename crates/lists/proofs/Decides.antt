@@ -72,12 +72,14 @@ module _ {A : Type 0} {P : A → Type 0} {p : A → Bool} (d : (a : A) → Decid
 
 -- ---- the tests of numbers
 
--- for =, < and ≤
+-- for =
 pub equal : (a b : ℕ) → Decides (eqb a b) (a ≡ b)
 equal a b = record { out = eqb→eq a b; into = (λ e. subst (λ (x : ℕ). T (eqb a x)) e (eqb-refl a)) }
 
+-- for <
 pub less : (a b : ℕ) → Decides (ltb a b) (a < b)
 less a b = record { out = ltb→lt a b; into = lt→ltb a b }
 
+-- for ≤
 pub atMost : (a b : ℕ) → Decides (leb a b) (a ≤ b)
 atMost a b = record { out = leb→le a b; into = le→leb a b }

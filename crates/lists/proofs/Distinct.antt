@@ -19,6 +19,7 @@ module _ {A : Type 0} where
     pub listed-in : {l : List A} {a : A} → a ∈ l → T (any (same a) l)
     listed-in {a = a} m = any-in (same a) m (eq .complete a)
 
+    -- and back
     pub listed-out : (l : List A) (a : A) → T (any (same a) l) → a ∈ l
     listed-out l a h = let r = any-out (same a) l h in member-cast (eq .sound a (r .which) (r .passes)) (r .member)
 
@@ -41,6 +42,7 @@ module _ {A : Type 0} where
         go (no h) (here e) ih = rw (distinct-new x l h) (here e)
         go (no h) (further k) ih = rw (distinct-new x l h) (further (ih k))
 
+    -- and no others
     pub distinct-out : (l : List A) → Within (distinct same l) l
     unfolding distinct
     distinct-out [] a m = m

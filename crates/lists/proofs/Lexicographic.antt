@@ -24,13 +24,15 @@ module _ {A : Type 0} (key : A → ℕ) (less : A → A → Bool) where
   abbrev pub lexicographic : A → A → Bool
   lexicographic x y = ltb (key x) (key y) || (eqb (key x) (key y) && less x y)
 
-  -- the two reasons for the test, and the split on it
+  -- the two reasons for the test: the number is less
   pub lexicographic-lt : (x y : A) → key x < key y → T (lexicographic x y)
   lexicographic-lt x y h = or-left (ltb (key x) (key y)) _ (lt→ltb (key x) (key y) h)
 
+  -- or the numbers are equal, and the other order decides
   pub lexicographic-eq : (x y : A) → key x ≡ key y → T (less x y) → T (lexicographic x y)
   lexicographic-eq x y e h = or-right (ltb (key x) (key y)) _ (and-in (eqb (key x) (key y)) (less x y) (rw e (eqb-refl (key y))) h)
 
+  -- to split on the test
   pub lexicographic-out : (x y : A) → T (lexicographic x y) → (key x < key y) ⊎ ((key x ≡ key y) × T (less x y))
   lexicographic-out x y h = go (or-out (ltb (key x) (key y)) _ h)
     where

@@ -86,11 +86,12 @@ module _ {A : Type 0} where
   module _ (p : A → Bool) where
     -- ---- keep
 
-    -- how keep goes on, where the test of the first is known
+    -- how keep goes on where the first passes
     pub keep-yes : (x : A) (l : List A) → T (p x) → keep p (x ∷ l) ≡ x ∷ keep p l
     unfolding keep
     keep-yes x l h = rw (true-out (p x) h)
 
+    -- and where it does not
     pub keep-no : (x : A) (l : List A) → (T (p x) → ⊥) → keep p (x ∷ l) ≡ keep p l
     unfolding keep
     keep-no x l h = rw (false-out (p x) h)
@@ -115,6 +116,7 @@ module _ {A : Type 0} where
       pub member : a ∈ l
       pub passes : T (p a)
 
+    -- to split on a kept member
     pub keep-out : (l : List A) {a : A} → a ∈ keep p l → Kept l a
     unfolding keep
     keep-out [] m = absurd (nil-out m)
@@ -139,6 +141,7 @@ module _ {A : Type 0} where
     all-in [] h = tt
     all-in (x ∷ l) h = and-in (p x) (all p l) (h x (here refl)) (all-in l (λ a m. h a (further m)))
 
+    -- and back
     pub all-out : (l : List A) → T (all p l) → Every (λ a. T (p a)) l
     unfolding all
     all-out (x ∷ l) h a (here e) = subst (λ (y : A). T (p y)) (sym e) (and-out (p x) (all p l) h .0)
@@ -156,6 +159,7 @@ module _ {A : Type 0} where
       pub member : which ∈ l
       pub passes : T (p which)
 
+    -- to take it out of the test
     pub any-out : (l : List A) → T (any p l) → Passing l
     unfolding any
     any-out (x ∷ l) h = go (or-out (p x) (any p l) h) (λ k. any-out l k)
@@ -173,6 +177,7 @@ module _ {A B : Type 0} where
     pub member : source ∈ l
     pub equal : b ≡ f source
 
+  -- to take it out of the map
   pub map-out : (f : A → B) (l : List A) {b : B} → b ∈ map f l → Mapped f l b
   map-out f l m = let r = Memᴰ·of-map f l m in record { source = r .0; member = r .1; equal = sym (r .2) }
 
@@ -182,11 +187,13 @@ module _ {A B : Type 0} where
     pub member : source ∈ l
     pub inner : b ∈ f source
 
+  -- a member of one of the lists is a member
   pub flatMap-in : (f : A → List B) {l : List A} {a : A} {b : B} → a ∈ l → b ∈ f a → b ∈ flatMap f l
   unfolding flatMap
   flatMap-in f {l = x ∷ l} {b = b} (here e) k = append-left (flatMap f l) (subst (λ (y : A). b ∈ f y) e k)
   flatMap-in f {l = x ∷ l} (further m) k = append-right (f x) (flatMap-in f m k)
 
+  -- and back
   pub flatMap-out : (f : A → List B) (l : List A) {b : B} → b ∈ flatMap f l → FlatMapped f l b
   unfolding flatMap
   flatMap-out f [] m = absurd (nil-out m)
@@ -216,6 +223,7 @@ below-in (suc n) {k} h = go (eq-or-lt k n h) (λ l. below-in n l)
     go (inl e) ih = here e
     go (inr l) ih = further (ih l)
 
+-- and back
 pub below-out : (n : ℕ) {k : ℕ} → k ∈ below n → k < n
 unfolding below
 below-out zero m = absurd (nil-out m)

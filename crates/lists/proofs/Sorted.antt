@@ -47,6 +47,7 @@ module _ {A : Type 0} (less : A → A → Bool) where
       go (no h) (further (here e)) ih = rw (insert-later a x l h) (here e)
       go (no h) (further (further k)) ih = rw (insert-later a x l h) (further (ih (further k)))
 
+  -- and no other
   pub insert-out : (a : A) (l : List A) → Within (insert less a l) (a ∷ l)
   unfolding insert
   insert-out a [] b m = m
@@ -70,6 +71,7 @@ module _ {A : Type 0} (less : A → A → Bool) where
   sort-in (x ∷ l) a (here e) = insert-in x (sort less l) a (here e)
   sort-in (x ∷ l) a (further m) = insert-in x (sort less l) a (further (sort-in l a m))
 
+  -- and adds none
   pub sort-out : (l : List A) → Within (sort less l) l
   unfolding sort
   sort-out [] a m = m

@@ -10,13 +10,15 @@ pub test : (b : Bool) → Dec (T b)
 test true = yes tt
 test false = no (λ h. h)
 
--- from the kit's `b ≡ true` and back; `rw (true-out b h)` and `rw (false-out b h)` go on with a choice by the test
+-- from the kit's `b ≡ true`
 pub true-in : (b : Bool) → b ≡ true → T b
 true-in b e = rw e tt
 
+-- and back; `rw (true-out b h)` and `rw (false-out b h)` go on with a choice by the test
 pub true-out : (b : Bool) → T b → b ≡ true
 true-out true h = refl
 
+-- a test that fails
 pub false-out : (b : Bool) → (T b → ⊥) → b ≡ false
 false-out true h = absurd (h tt)
 false-out false h = refl
@@ -27,6 +29,7 @@ false-out false h = refl
 pub and-in : (a b : Bool) → T a → T b → T (a && b)
 and-in true b h k = k
 
+-- and back
 pub and-out : (a b : Bool) → T (a && b) → T a × T b
 and-out true b h = (tt, h)
 
@@ -34,10 +37,12 @@ and-out true b h = (tt, h)
 pub or-left : (a b : Bool) → T a → T (a || b)
 or-left true b h = tt
 
+-- or the other
 pub or-right : (a b : Bool) → T b → T (a || b)
 or-right true b h = tt
 or-right false b h = h
 
+-- to split on it
 pub or-out : (a b : Bool) → T (a || b) → T a ⊎ T b
 or-out true b h = inl tt
 or-out false b h = inr h

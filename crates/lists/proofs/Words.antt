@@ -23,6 +23,7 @@ pub record Grown (n : ℕ) (ps : List (List ℕ)) (q : List ℕ) : Type 0 where
 pub grown-in : (n : ℕ) {ps : List (List ℕ)} {b : ℕ} {p : List ℕ} → b < n → p ∈ ps → (b ∷ p) ∈ grown n ps
 grown-in n {p = p} h m = flatMap-in (λ p. map (λ b. b ∷ p) (below n)) m (map-in (λ b. b ∷ p) (below-in n h))
 
+-- and no others
 pub grown-out : (n : ℕ) (ps : List (List ℕ)) {q : List ℕ} → q ∈ grown n ps → Grown n ps q
 grown-out n ps m =
     let r = flatMap-out (λ p. map (λ b. b ∷ p) (below n)) ps m in

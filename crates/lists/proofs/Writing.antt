@@ -29,10 +29,11 @@ module _ {A : Type 0} where
     pub kept : length l ≡ length first
     pub left : sets l (at + j) (drop j vs) ≡ sets first at vs
 
-  -- for the loop's start, its next turn and its end
+  -- for such a loop's start
   pub filling-start : (first vs : List A) (at : ℕ) → Filling first vs at first 0
   filling-start first vs at = let e : at + 0 ≡ at = omega arith in record { within = omega arith; kept = refl; left = rw e }
 
+  -- its next turn
   pub filling-next : {first vs : List A} {at : ℕ} {l : List A} {j : ℕ} (d : A) → j < length vs → Filling first vs at l j
       → Filling first vs at (set l (at + j) (getD vs j d)) (j + 1)
   filling-next {vs = vs} {at = at} {l = l} {j = j} d h f = record {
@@ -41,6 +42,7 @@ module _ {A : Type 0} where
     left = sym (sets-next l vs at j d h) ∙ f .left;
   }
 
+  -- and its end
   pub filling-done : {first vs : List A} {at : ℕ} {l : List A} {j : ℕ} → length vs ≤ j → Filling first vs at l j → l ≡ sets first at vs
   filling-done {vs = vs} {at = at} {l = l} {j = j} h f = sym (sets-done l vs at j h) ∙ f .left
 

@@ -45,13 +45,15 @@ rowsOf-same work other (suc n) f =
 -- ---- a row written
 
 module _ (work : List ℕ) (i : ℕ) (r : Held) where
+  -- the memory with the order word alone written
   abbrev half : List ℕ
   half = set work (3 * i) (orderWord r)
 
-  -- the length stays, the row is the one written, and no other changes
+  -- the length stays
   length-written : length (written work i r) ≡ length work
   length-written = simp length-set
 
+  -- the row is the one written
   written-here : 3 * (i + 1) ≤ length work → Small r → rowIn (written work i r) i ≡ rowOf r
   written-here room s =
       ap₂ rowFrom
@@ -59,6 +61,7 @@ module _ (work : List ℕ) (i : ℕ) (r : Held) where
       (getD-set-same half (3 * i + 1) (restWord r) 0 (omega (arith, length-set work (3 * i) (orderWord r))))
       ∙ rowFrom-words r s
 
+  -- and no other changes
   written-others : (k : ℕ) → (k ≡ i → ⊥) → rowIn (written work i r) k ≡ rowIn work k
   written-others k d =
       ap₂ rowFrom

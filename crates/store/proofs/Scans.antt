@@ -20,6 +20,7 @@ use Rattle.store.proofs.Rows.{rowIn, length-rowsOf, rowAt-rowsOf}
 
 -- ---- the rows from row i on
 
+-- what a scan has still to see, or has seen
 abbrev from : List ℕ → ℕ → ℕ → List Row
 from work n i = drop i (rowsOf work n)
 
@@ -28,9 +29,11 @@ module _ (work : List ℕ) (n i : ℕ) where
   from-next : i < n → from work n i ≡ rowIn work i ∷ from work n (suc i)
   from-next h = rw (drop-cons (rowsOf work n) i noRow (omega (arith, length-rowsOf work n)), rowAt-rowsOf work n i h)
 
+  -- behind the last row there is none
   from-end : n ≤ i → from work n i ≡ []
   from-end h = let k : length (rowsOf work n) ≤ i = omega (arith, length-rowsOf work n) in drop-of-length-le (rowsOf work n) k
 
+  -- and so many
   length-from : length (from work n i) ≡ n - i
   length-from = length-drop i (rowsOf work n) ∙ ap (λ (k : ℕ). k - i) (length-rowsOf work n)
 

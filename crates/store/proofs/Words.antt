@@ -17,11 +17,12 @@ use Rattle.store.specs.Memory.{rowOf, Small, states, levels, nodes, orde
 
 -- ---- packed and taken apart
 
--- the last bit of the other word is one bit, and is read as it was written
+-- the last bit of the other word is one bit
 bit-small : (b : Bool) → cond b 1 0 < 2
 bit-small true = omega arith
 bit-small false = omega arith
 
+-- and is read as it was written
 bit-back : (p i c : ℕ) (b : Bool) → eqb ((p * 131072 + i * 512 + c * 2 + cond b 1 0) % 2) 1 ≡ b
 bit-back p i c true = eq-eqb ((p * 131072 + i * 512 + c * 2 + 1) % 2) 1 (omega arith)
 bit-back p i c false = ne-eqb ((p * 131072 + i * 512 + c * 2 + 0) % 2) 1 (omega arith)
@@ -45,7 +46,7 @@ rowFrom-words r s =
 -- ---- compared
 
 module _ (a b : ℕ) where
-  -- what stands before has the lower order word, and back
+  -- what stands before has the lower order word
   words-out : Before (entryFrom a) (entryFrom b) → a < b
   words-out (inl h) = omega arith
   words-out (inr h) = go (h .0) (h .1)
@@ -54,6 +55,7 @@ module _ (a b : ℕ) where
       go e (inl k) = omega arith
       go e (inr k) = omega arith
 
+  -- and back
   words-in : a < b → Before (entryFrom a) (entryFrom b)
   words-in h = go (compared (a / nodes) (b / nodes)) (compared (a / states % levels) (b / states % levels))
     where

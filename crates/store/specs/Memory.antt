@@ -71,6 +71,7 @@ rowFrom order rest = record {
 abbrev pub orderAt : List ℕ → ℕ → ℕ
 orderAt work i = getD work (3 * i) 0
 
+-- the other word of row i
 abbrev pub restAt : List ℕ → ℕ → ℕ
 restAt work i = getD work (3 * i + 1) 0
 

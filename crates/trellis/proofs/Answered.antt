@@ -84,6 +84,7 @@ pub record Answer (t : Trellis) (room allowance : ℕ) (w : List ℕ) (m done : 
   pub paid : m ≡ metricOf t w
   pub ended : done ≡ steps t
 
+-- for whoever reads an answer: what it carries is right
 pub answered-out : (t : Trellis) (room allowance : ℕ) (w : List ℕ) (m done : ℕ) → verdict t room allowance ≡ answered w m done
     → Answer t room allowance w m done
 unfolding verdict decided

@@ -85,12 +85,12 @@ pub record OpenRow (rows : List Row) (e : Entry) : Type 0 where
 closed-in : (t : Trellis) (j : ℕ) (e : Entry) → e ∈ take j (ranked t) → Closed t j (e .node)
 closed-in t j e m = member-cast (entry-path (sym (cost-computed (ranked-out t (take-out j (ranked t) e m)))) refl) m
 
-module _ {t : Trellis} {cap room j : ℕ} {rows : List Row} (M : Between t cap room j rows) where
+module _ {t : Trellis} {cap room j : ℕ} {rows : List Row} (inv : Between t cap room j rows) where
   -- an open row's node is not closed
   pub open-apart : (i : ℕ) → i < length rows → rowAt rows i .closed ≡ false → Closed t j (nodeAt rows i) → ⊥
   open-apart i h e m =
-      let s = M .table .stored (priced t (nodeAt rows i)) m in
-      let k : s .row ≡ i = M .table .once (s .row) i (s .within) h (ap (λ (u : Entry). u .node) (s .equal)) in
+      let s = inv .table .stored (priced t (nodeAt rows i)) m in
+      let k : s .row ≡ i = inv .table .once (s .row) i (s .within) h (ap (λ (u : Entry). u .node) (s .equal)) in
       true≢false (sym (s .shut) ∙ ap (λ (u : ℕ). rowAt rows u .closed) k ∙ e)
 
   -- the open rows are the frontier of the closed nodes
@@ -98,17 +98,17 @@ module _ {t : Trellis} {cap room j : ℕ} {rows : List Row} (M : Between t cap r
   frontier-rows = record {
     start = offer (entry 0 0 0) (record {
       row = 0;
-      within = M .table .some;
-      equal = ap (λ (e : Entry). e .node) (M .table .first);
-      small = omega (arith, ap (λ (e : Entry). e .cost) (M .table .first));
+      within = inv .table .some;
+      equal = ap (λ (e : Entry). e .node) (inv .table .first);
+      small = omega (arith, ap (λ (e : Entry). e .cost) (inv .table .first));
     });
-    front = (λ e b m u. offer (onto t e b) (pick (branch e b) (M .all .full (branch e b) m u)));
-    reached = (λ e o. subst (Attained t) (o .equal) (row-attained (M .table) (o .row) (o .within)));
+    front = (λ e b m u. offer (onto t e b) (pick (branch e b) (inv .all .full (branch e b) m u)));
+    reached = (λ e o. subst (Attained t) (o .equal) (row-attained (inv .table) (o .row) (o .within)));
     apart = (λ e o k. open-apart (o .row) (o .within) (o .live) (subst (λ (u : Entry). Closed t j (u .node)) (sym (o .equal)) k));
   }
     where
-      pick : (f : Branch) → (f ∈ M .taken) ⊎ ⊥ → Covered rows (lands t f)
-      pick f (inl m) = M .table .reach f m
+      pick : (f : Branch) → (f ∈ inv .taken) ⊎ ⊥ → Covered rows (lands t f)
+      pick f (inl m) = inv .table .reach f m
       pick f (inr m) = absurd m
 
       -- a row for the entry's node is closed, or it offers the entry
@@ -116,7 +116,7 @@ module _ {t : Trellis} {cap room j : ℕ} {rows : List Row} (M : Between t cap r
       offer e k = go (rowAt rows (k .row) .closed) refl
         where
           go : (shut : Bool) → rowAt rows (k .row) .closed ≡ shut → Closed t j (e .node) ⊎ Offered (OpenRow rows) e
-          go true c = inl (rw (k .equal) at (closed-in t j (entryAt rows (k .row)) (M .table .shut (k .row) (k .within) c)))
+          go true c = inl (rw (k .equal) at (closed-in t j (entryAt rows (k .row)) (inv .table .shut (k .row) (k .within) c)))
           go false c =
               let o : OpenRow rows (record { cost = costAt rows (k .row); node = e .node }) =
               record { row = k .row; within = k .within; live = c; equal = entry-path refl (k .equal) } in
@@ -124,7 +124,7 @@ module _ {t : Trellis} {cap room j : ℕ} {rows : List Row} (M : Between t cap r
 
   -- the rows are as many as D(j)
   pub between-met : length rows ≡ met t j
-  between-met = rows-met (M .table) (M .all)
+  between-met = rows-met (inv .table) (inv .all)
 
   -- there is an open row, if the terminal can be reached at all
   pub between-open : Reached t (terminal t) → firstOpen rows < length rows
@@ -134,7 +134,7 @@ module _ {t : Trellis} {cap room j : ℕ} {rows : List Row} (M : Between t cap r
       go (yes h) = h
       go (no h) =
           let k : Closed t j _ = all-closed frontier-rows (λ e o. h (firstOpen-is rows .some (o .row) (o .within) (o .live))) (r .there .allowed) in
-          absurd (M .table .ahead (subst (Closed t j) (node-path (r .there .level) (r .there .state)) k))
+          absurd (inv .table .ahead (subst (Closed t j) (node-path (r .there .level) (r .there .state)) k))
 
 -- ---- the first open row
 
@@ -144,16 +144,17 @@ pub record Next (t : Trellis) (cap j i : ℕ) (rows : List Row) : Type 0 where
   pub known : Priced t (entryAt rows i)
   pub counted : rowAt rows i .count ≡ min cap (shared t (entryAt rows i))
 
-module _ {t : Trellis} {cap room j i : ℕ} {rows : List Row} (M : Between t cap room j rows) (f : First rows i) (h : i < length rows) where
+module _ {t : Trellis} {cap room j i : ℕ} {rows : List Row} (inv : Between t cap room j rows) (f : First rows i) (h : i < length rows) where
+  -- the entry of row i
   abbrev z : Entry
   z = entryAt rows i
 
   -- it is open, and no open row is before it
-  zin : OpenRow rows z
-  zin = record { row = i; within = h; live = f .live h; equal = refl }
+  z-open : OpenRow rows z
+  z-open = record { row = i; within = h; live = f .live h; equal = refl }
 
-  zmin : (e : Entry) → OpenRow rows e → AtMost z e
-  zmin e o = subst (λ (u : Entry). AtMost z u) (o .equal) (go (before-order .total z (entryAt rows (o .row))))
+  z-least : (e : Entry) → OpenRow rows e → AtMost z e
+  z-least e o = subst (λ (u : Entry). AtMost z u) (o .equal) (go (before-order .total z (entryAt rows (o .row))))
     where
       go : T (before z (entryAt rows (o .row))) ⊎ ((z ≡ entryAt rows (o .row)) ⊎ T (before (entryAt rows (o .row)) z))
           → AtMost z (entryAt rows (o .row))
@@ -162,28 +163,28 @@ module _ {t : Trellis} {cap room j i : ℕ} {rows : List Row} (M : Between t cap
       go (inr (inr b)) = absurd (f .least (o .row) (o .within) (o .live) b)
 
   -- the taken branches that bring z its cost are all that do
-  least-branches : LeastBranches t z (arriving t (M .taken) z)
+  least-branches : LeastBranches t z (arriving t (inv .taken) z)
   least-branches = record {
-    once = keep-unique (λ g. alike (lands t g) z) (M .taken) (M .all .once);
-    known = (λ g m. ranked-out t (take-out j (ranked t) (g .source) (M .all .sources g (kept g m .member))));
-    fits = (λ g m. M .all .fits g (kept g m .member));
+    once = keep-unique (λ g. alike (lands t g) z) (inv .taken) (inv .all .once);
+    known = (λ g m. ranked-out t (take-out j (ranked t) (g .source) (inv .all .sources g (kept g m .member))));
+    fits = (λ g m. inv .all .fits g (kept g m .member));
     lands-there = (λ g m. alike-equality .sound (lands t g) z (kept g m .passes));
     full = (λ g p u e.
-        keep-in (λ g. alike (lands t g) z) (inside g p u e (ranked-after (frontier-rows M) z zin zmin (g .source) p))
+        keep-in (λ g. alike (lands t g) z) (inside g p u e (ranked-after (frontier-rows inv) z z-open z-least (g .source) p))
         (subst (λ (x : Entry). T (alike (lands t g) x)) e (alike-equality .complete (lands t g))));
   }
     where
-      kept : (g : Branch) → g ∈ arriving t (M .taken) z → Kept (λ g. alike (lands t g) z) (M .taken) g
-      kept g m = keep-out (λ g. alike (lands t g) z) (M .taken) m
+      kept : (g : Branch) → g ∈ arriving t (inv .taken) z → Kept (λ g. alike (lands t g) z) (inv .taken) g
+      kept g m = keep-out (λ g. alike (lands t g) z) (inv .taken) m
 
-      pick : (g : Branch) → (g ∈ M .taken) ⊎ ⊥ → g ∈ M .taken
+      pick : (g : Branch) → (g ∈ inv .taken) ⊎ ⊥ → g ∈ inv .taken
       pick g (inl m) = m
       pick g (inr m) = absurd m
 
       -- what a branch brings stands later than its source, so the source of z's branch stands before z
       inside : (g : Branch) → Priced t (g .source) → Fits t g → lands t g ≡ z → (g .source ∈ take j (ranked t)) ⊎ AtMost z (g .source)
-          → g ∈ M .taken
-      inside g p u e (inl m) = pick g (M .all .full g m u)
+          → g ∈ inv .taken
+      inside g p u e (inl m) = pick g (inv .all .full g m u)
       inside g p u e (inr a) =
           let b : T (before (g .source) z) = subst (λ (x : Entry). T (before (g .source) x)) e (onto-later t (g .source) (g .input)) in
           absurd (before-order .irrefl z (at-most-before z (g .source) z a b))
@@ -192,10 +193,10 @@ module _ {t : Trellis} {cap room j i : ℕ} {rows : List Row} (M : Between t cap
   pub between-next : Next t cap j i rows
   unfolding ways
   between-next =
-      let F = frontier-rows M in
-      let p : Priced t z = next-exact F z zin zmin in
+      let F = frontier-rows inv in
+      let p : Priced t z = next-exact F z z-open z-least in
       record {
-        grows = next-ranked F z zin zmin;
+        grows = next-ranked F z z-open z-least;
         known = p;
-        counted = M .table .counted i h ∙ ap (min cap) (sym (sharing-total p least-branches));
+        counted = inv .table .counted i h ∙ ap (min cap) (sym (sharing-total p least-branches));
       }

@@ -57,6 +57,7 @@ module _ {t : Trellis} {bound : ℕ → ℕ} (h : Bounded t bound) where
   pub metric-bound-top : {p : Path} → Allowed t p → metric t p ≤ sumBelow bound (top t)
   metric-bound-top {p} al = omega (arith, metric-bound al, sumBelow-more bound (length p) (top t) (path-short al))
 
+  -- every cost
   pub cost-bound : {x : Node} {c : ℕ} → Cost t x c → c ≤ sumBelow bound (top t)
   cost-bound k = omega (arith, k .paid, metric-bound-top (k .there .allowed))
 

@@ -15,24 +15,29 @@ use Rattle.trellis.proofs.Rows.{RowOf, findRow-is}
 
 module _ (cap room : ℕ) (rows : List Row) (a : Row) (k : ℕ) where
   module _ (h : k < length rows) where
+    -- cheaper
     pub entered-lowers : a .entry .cost < costAt rows k → entered cap room rows a k ≡ record { rows = lowered rows k a; full = false }
     unfolding entered
     entered-lowers l = rw (lt-ltb k (length rows) h, lt-ltb (a .entry .cost) (costAt rows k) l)
 
+    -- at the same cost
     pub entered-joins : a .entry .cost ≡ costAt rows k → entered cap room rows a k ≡ record { rows = joined cap rows k (a .count); full = false }
     unfolding entered
     entered-joins c = rw (lt-ltb k (length rows) h, le-ltb (a .entry .cost) (costAt rows k) (omega arith), eq-eqb (a .entry .cost) (costAt rows k) c)
 
+    -- dearer
     pub entered-leaves : costAt rows k < a .entry .cost → entered cap room rows a k ≡ record { rows = rows; full = false }
     unfolding entered
     entered-leaves l =
         rw (lt-ltb k (length rows) h, le-ltb (a .entry .cost) (costAt rows k) (omega arith), ne-eqb (a .entry .cost) (costAt rows k) (λ e. omega arith))
 
   module _ (h : length rows ≤ k) where
+    -- a new node, and room for it
     pub entered-adds : length rows < room → entered cap room rows a k ≡ record { rows = added rows a; full = false }
     unfolding entered
     entered-adds l = rw (le-ltb k (length rows) h, lt-ltb (length rows) room l)
 
+    -- a new node, and no room
     pub entered-stops : room ≤ length rows → entered cap room rows a k ≡ record { rows = rows; full = true }
     unfolding entered
     entered-stops l = rw (le-ltb k (length rows) h, le-ltb (length rows) room l)

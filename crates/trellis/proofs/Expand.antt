@@ -34,6 +34,7 @@ record Shut (rows : List Row) (i k : ℕ) : Type 0 where
   stays : rowAt rows k .closed ≡ true → rowAt (closed rows i) k .closed ≡ true
   chosen : rowAt (closed rows i) k .closed ≡ true → (k ≡ i) ⊎ (rowAt rows k .closed ≡ true)
 
+-- every row is such a one
 shut-row : (rows : List Row) (i k : ℕ) → i < length rows → k < length rows → Shut rows i k
 shut-row rows i k h l = go (ℕ-discrete k i)
   where
@@ -64,8 +65,8 @@ shut-row rows i k h l = go (ℕ-discrete k i)
           chosen = (λ c. inr (ap (λ (u : Row). u .closed) (sym q) ∙ c));
         }
 
-module _ {t : Trellis} {cap room j i : ℕ} {rows : List Row} (M : Between t cap room j rows) (h : i < length rows) (live : rowAt rows i .closed ≡ false)
-    (N : Next t cap j i rows) (off : nodeAt rows i ≡ terminal t → ⊥) where
+module _ {t : Trellis} {cap room j i : ℕ} {rows : List Row} (inv : Between t cap room j rows) (h : i < length rows) (live : rowAt rows i .closed ≡ false)
+    (next : Next t cap j i rows) (off : nodeAt rows i ≡ terminal t → ⊥) where
   abbrev z : Entry
   z = entryAt rows i
 
@@ -81,35 +82,35 @@ module _ {t : Trellis} {cap room j i : ℕ} {rows : List Row} (M : Between t cap
 
   -- the closed nodes are the old ones and z
   old : {e : Entry} → e ∈ take j (ranked t) → e ∈ take (suc j) (ranked t)
-  old m = rw (N .grows) (append-left (z ∷ []) m)
+  old m = rw (next .grows) (append-left (z ∷ []) m)
 
   last : z ∈ take (suc j) (ranked t)
-  last = rw (N .grows) (append-right (take j (ranked t)) (here refl))
+  last = rw (next .grows) (append-right (take j (ranked t)) (here refl))
 
   split : (e : Entry) → e ∈ take (suc j) (ranked t) → (e ∈ take j (ranked t)) ⊎ (e ≡ z)
-  split e m = go (append-out (take j (ranked t)) (rw (N .grows) at m))
+  split e m = go (append-out (take j (ranked t)) (rw (next .grows) at m))
     where
       go : (e ∈ take j (ranked t)) ⊎ (e ∈ (z ∷ [])) → (e ∈ take j (ranked t)) ⊎ (e ≡ z)
       go (inl k) = inl k
       go (inr k) = inr (singleton-out k)
 
   -- the table with row i closed
-  table-closed : Table t cap (suc j) (M .taken) (closed rows i)
+  table-closed : Table t cap (suc j) (inv .taken) (closed rows i)
   table-closed = record {
-    some = longer 0 (M .table .some);
-    first = at 0 (longer 0 (M .table .some)) .entry ∙ M .table .first;
+    some = longer 0 (inv .table .some);
+    first = at 0 (longer 0 (inv .table .some)) .entry ∙ inv .table .first;
     linked = (λ k u l. linked′ k u (at k l));
-    once = (λ k l u v e. M .table .once k l (at k u .within) (at l v .within) (cc (e, at k u .entry, at l v .entry)));
+    once = (λ k l u v e. inv .table .once k l (at k u .within) (at l v .within) (cc (e, at k u .entry, at l v .entry)));
     shut = (λ k l c. shut′ k (at k l) (at k l .chosen c));
     stored = (λ e m. stored′ e (split e m));
-    reach = (λ f m. reach′ (M .table .reach f m));
-    counted = (λ k l. let s = at k l in s .count ∙ M .table .counted k (s .within) ∙ ap (λ (e : Entry). min cap (ways t (M .taken) e)) (sym (s .entry)));
+    reach = (λ f m. reach′ (inv .table .reach f m));
+    counted = (λ k l. let s = at k l in s .count ∙ inv .table .counted k (s .within) ∙ ap (λ (e : Entry). min cap (ways t (inv .taken) e)) (sym (s .entry)));
     ahead = (λ m. ahead′ (split (priced t (terminal t)) m));
   }
     where
       linked′ : (k : ℕ) → 0 < k → Shut rows i k → Link t (closed rows i) (rowAt (closed rows i) k)
       linked′ k u s =
-          let o : Link t rows (rowAt rows k) = M .table .linked k u (s .within) in
+          let o : Link t rows (rowAt rows k) = inv .table .linked k u (s .within) in
           let v = at (rowAt rows k .parent) (longer (rowAt rows k .parent) (o .within)) in
           let e : entryAt (closed rows i) (rowAt (closed rows i) k .parent) ≡ entryAt rows (rowAt rows k .parent) =
           ap (λ (p : ℕ). entryAt (closed rows i) p) (s .parent) ∙ v .entry in
@@ -122,11 +123,11 @@ module _ {t : Trellis} {cap room j i : ℕ} {rows : List Row} (M : Between t cap
 
       shut′ : (k : ℕ) → Shut rows i k → (k ≡ i) ⊎ (rowAt rows k .closed ≡ true) → entryAt (closed rows i) k ∈ take (suc j) (ranked t)
       shut′ k s (inl e) = member-cast (s .entry ∙ ap (λ (u : ℕ). entryAt rows u) e) last
-      shut′ k s (inr c) = member-cast (s .entry) (old (M .table .shut k (s .within) c))
+      shut′ k s (inr c) = member-cast (s .entry) (old (inv .table .shut k (s .within) c))
 
       stored′ : (e : Entry) → (e ∈ take j (ranked t)) ⊎ (e ≡ z) → Stored (closed rows i) e
       stored′ e (inl m) =
-          let s = M .table .stored e m in
+          let s = inv .table .stored e m in
           let r = at (s .row) (longer (s .row) (s .within)) in
           record { row = s .row; within = longer (s .row) (s .within); shut = r .stays (s .shut); equal = r .entry ∙ s .equal }
       stored′ e (inr q) = record { row = i; within = longer i h; shut = own-shut; equal = at i (longer i h) .entry ∙ sym q }
@@ -142,25 +143,27 @@ module _ {t : Trellis} {cap room j i : ℕ} {rows : List Row} (M : Between t cap
           }
 
       ahead′ : Closed t j (terminal t) ⊎ (priced t (terminal t) ≡ z) → ⊥
-      ahead′ (inl m) = M .table .ahead m
+      ahead′ (inl m) = inv .table .ahead m
       ahead′ (inr e) = off (ap (λ (u : Entry). u .node) (sym e))
 
   -- its branches are pending
-  pending : Taken t (suc j) (From z 0) (M .taken)
+  pending : Taken t (suc j) (From z 0) (inv .taken)
   pending = record {
-    once = M .all .once;
-    sources = (λ f m. old (M .all .sources f m));
-    fits = M .all .fits;
-    new = (λ f m p. open-apart M i h live (member-cast (entry-path (sym (cost-computed (N .known))) refl) (member-cast (sym (p .0)) (M .all .sources f m))));
+    once = inv .all .once;
+    sources = (λ f m. old (inv .all .sources f m));
+    fits = inv .all .fits;
+    new = (λ f m p.
+        open-apart inv i h live
+        (member-cast (entry-path (sym (cost-computed (next .known))) refl) (member-cast (sym (p .0)) (inv .all .sources f m))));
     full = (λ f m u. full′ f u (split (f .source) m));
   }
     where
-      pick : (f : Branch) → (f ∈ M .taken) ⊎ ⊥ → (f ∈ M .taken) ⊎ From z 0 f
+      pick : (f : Branch) → (f ∈ inv .taken) ⊎ ⊥ → (f ∈ inv .taken) ⊎ From z 0 f
       pick f (inl m) = inl m
       pick f (inr m) = absurd m
 
-      full′ : (f : Branch) → Fits t f → (f .source ∈ take j (ranked t)) ⊎ (f .source ≡ z) → (f ∈ M .taken) ⊎ From z 0 f
-      full′ f u (inl m) = pick f (M .all .full f m u)
+      full′ : (f : Branch) → Fits t f → (f .source ∈ take j (ranked t)) ⊎ (f .source ≡ z) → (f ∈ inv .taken) ⊎ From z 0 f
+      full′ f u (inl m) = pick f (inv .all .full f m u)
       full′ f u (inr e) = inr (e, omega arith)
 
   -- the step begins
@@ -169,23 +172,25 @@ module _ {t : Trellis} {cap room j i : ℕ} {rows : List Row} (M : Between t cap
       let s = at i (longer i h) in
       record {
         here = s .entry;
-        taken = M .taken;
+        taken = inv .taken;
         table = table-closed;
-        all = subst (λ (e : Entry). Taken t (suc j) (From e 0) (M .taken)) (sym (s .entry)) pending;
+        all = subst (λ (e : Entry). Taken t (suc j) (From e 0) (inv .taken)) (sym (s .entry)) pending;
         within = longer i h;
         shut = own-shut;
-        counted = s .count ∙ N .counted ∙ ap (λ (e : Entry). min cap (shared t e)) (sym (s .entry));
-        held = omega (arith, M .held, length-set rows i (shut (rowAt rows i)));
+        counted = s .count ∙ next .counted ∙ ap (λ (e : Entry). min cap (shared t e)) (sym (s .entry));
+        held = omega (arith, inv .held, length-set rows i (shut (rowAt rows i)));
       }
 
 -- ---- the branches
 
 -- how they go on, where the next branch is known
 module _ (t : Trellis) (cap room i left b : ℕ) (rows : List Row) where
+  -- it had no room
   pub fan-full : relax t cap room i b rows .full ≡ true → fan t cap room i (suc left) b rows ≡ relax t cap room i b rows
   unfolding fan onward
   fan-full e = rw (fan, onward, e)
 
+  -- it had room
   pub fan-on : relax t cap room i b rows .full ≡ false → fan t cap room i (suc left) b rows ≡ fan t cap room i left (suc b) (relax t cap room i b rows .rows)
   unfolding fan onward
   fan-on e = rw (fan, onward, e)
@@ -193,22 +198,22 @@ module _ (t : Trellis) (cap room i left b : ℕ) (rows : List Row) where
 -- all branches of z are taken
 pub amid-end : {t : Trellis} {cap room j i : ℕ} {z : Entry} {b : ℕ} {rows : List Row} → Amid t cap room j i z b rows → allowed t (z .node .level) ≤ b
     → Between t cap room j rows
-amid-end {t} {cap} {room} {j} {i} {z} {b} {rows} M h = record {
-  taken = M .taken;
-  table = M .table;
+amid-end {t} {cap} {room} {j} {i} {z} {b} {rows} inv h = record {
+  taken = inv .taken;
+  table = inv .table;
   all = record {
-    once = M .all .once;
-    sources = M .all .sources;
-    fits = M .all .fits;
+    once = inv .all .once;
+    sources = inv .all .sources;
+    fits = inv .all .fits;
     new = (λ f m p. p);
-    full = (λ f m u. inl (pick f u (M .all .full f m u)));
+    full = (λ f m u. inl (pick f u (inv .all .full f m u)));
   };
-  held = M .held;
+  held = inv .held;
 }
   where
-    pick : (f : Branch) → Fits t f → (f ∈ M .taken) ⊎ From (entryAt rows i) b f → f ∈ M .taken
+    pick : (f : Branch) → Fits t f → (f ∈ inv .taken) ⊎ From (entryAt rows i) b f → f ∈ inv .taken
     pick f u (inl m) = m
-    pick f u (inr p) = absurd (omega (arith, u, p .1, ap (λ (e : Entry). allowed t (e .node .level)) (p .0 ∙ M .here)))
+    pick f u (inr p) = absurd (omega (arith, u, p .1, ap (λ (e : Entry). allowed t (e .node .level)) (p .0 ∙ inv .here)))
 
 -- going on after a try
 onward-going : {P Q : List Row → Type 0} {S : Type 0} (rows : List Row) (full : Bool) (next : List Row → Tried)
@@ -223,11 +228,11 @@ pub fan-going : {t : Trellis} {cap room j i : ℕ} {z : Entry} (left : ℕ) {b :
     → Amid t cap room j i z b rows → left + b ≡ allowed t (z .node .level)
     → Going (Between t cap room j) (room < met t j) (fan t cap room i left b rows)
 unfolding fan
-fan-going zero M e = record { went = (λ _. amid-end M (omega arith)); stuck = (λ c. absurd (true≢false (sym c))) }
-fan-going {t} {cap} {room} {i = i} (suc left) {b = b} {rows = rows} M e =
+fan-going zero inv e = record { went = (λ _. amid-end inv (omega arith)); stuck = (λ c. absurd (true≢false (sym c))) }
+fan-going {t} {cap} {room} {i = i} (suc left) {b = b} {rows = rows} inv e =
     let r : Tried = relax t cap room i b rows in
     onward-going (r .rows) (r .full) (λ next. fan t cap room i left (suc b) next)
-    (relax-going M (omega (arith, ap (λ (x : Entry). allowed t (x .node .level)) (M .here))))
+    (relax-going inv (omega (arith, ap (λ (x : Entry). allowed t (x .node .level)) (inv .here))))
     (λ next m. fan-going left m (omega arith))
 
 -- THE SEARCH'S STEP: the first open row, if it is not the terminal's, is closed and all of its branches are taken
@@ -235,5 +240,5 @@ pub expand-going : {t : Trellis} {cap room j i : ℕ} {rows : List Row}
     → Between t cap room j rows → First rows i → i < length rows → (nodeAt rows i ≡ terminal t → ⊥)
     → Going (Between t cap room (suc j)) (room < met t (suc j)) (expand t cap room i rows)
 unfolding expand
-expand-going {t} {i = i} {rows = rows} M f h off =
-    fan-going (allowed t (nodeAt rows i .level)) (closed-amid M h (f .live h) (between-next M f h) off) (omega arith)
+expand-going {t} {i = i} {rows = rows} inv f h off =
+    fan-going (allowed t (nodeAt rows i .level)) (closed-amid inv h (f .live h) (between-next inv f h) off) (omega arith)

@@ -35,11 +35,11 @@ pub record Right (t : Trellis) (cap : ℕ) (rows : List Row) (metric done count 
   -- the trace is a path that has it
   pub traced : Attains t (record { cost = metric; node = terminal t }) (trace rows (top t) i)
 
-module _ {t : Trellis} (law : Lawful t) {cap room j i : ℕ} {rows : List Row} (M : Between t cap room j rows)
+module _ {t : Trellis} (law : Lawful t) {cap room j i : ℕ} {rows : List Row} (inv : Between t cap room j rows)
     (f : First rows i) (h : i < length rows) (e : nodeAt rows i ≡ terminal t) where
   -- what is known of the terminal's row: the next ranked node, at the terminal's cost, and the path that its trace is
   next : Next t cap j i rows
-  next = between-next M f h
+  next = between-next inv f h
 
   found-cost : Cost t (terminal t) (costAt rows i)
   found-cost = rw e at (next .known)
@@ -47,7 +47,7 @@ module _ {t : Trellis} (law : Lawful t) {cap room j i : ℕ} {rows : List Row} (
   way : Attains t (record { cost = costAt rows i; node = terminal t }) (trace rows (top t) i)
   way =
       subst (λ (x : Node). Attains t (record { cost = costAt rows i; node = x }) (trace rows (top t) i)) e
-      (trace-attains (M .table) (top t) i h (ap (λ (x : Node). x .level) e))
+      (trace-attains (inv .table) (top t) i h (ap (λ (x : Node). x .level) e))
 
   -- the least paths to the terminal
   least-paths : LeastPaths t (terminal t) (costAt rows i) (sharing t (entryAt rows i))

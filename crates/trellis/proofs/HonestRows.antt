@@ -33,7 +33,7 @@ pub record Holds (sheet : List Entry) (rows : List Row) : Type 0 where
   pub listed : (i : ℕ) → i < length rows → rowAt rows i .closed ≡ true → entryAt rows i ∈ sheet
   pub stored : (e : Entry) → e ∈ sheet → Stored rows e
 
-module _ {t : Trellis} (law : Lawful t) {cap room j i : ℕ} {rows : List Row} (M : Between t cap room j rows)
+module _ {t : Trellis} (law : Lawful t) {cap room j i : ℕ} {rows : List Row} (inv : Between t cap room j rows)
     (f : First rows i) (h : i < length rows) (e : nodeAt rows i ≡ terminal t) where
   abbrev after : List Row
   after = closed rows i
@@ -51,14 +51,14 @@ module _ {t : Trellis} (law : Lawful t) {cap room j i : ℕ} {rows : List Row} (
 
   -- the first E + 1 ranked nodes
   grows : take (suc (steps t)) (ranked t) ≡ take j (ranked t) ++ (entryAt rows i ∷ [])
-  grows = rw (found-right law M f h e .ended) (between-next M f h .grows)
+  grows = rw (found-right law inv f h e .ended) (between-next inv f h .grows)
 
   -- THE ROWS LEFT: with the terminal's row closed they hold the honest sheet of the least metric
   pub found-holds : Holds (honest t (leastMetric t)) (closed rows i)
   found-holds = record {
-    some = omega (arith, M .table .some, C .longer);
-    first = entry-same 0 (omega (arith, M .table .some, C .longer)) ∙ M .table .first;
-    once = (λ k l u v q. M .table .once k l (inside k u) (inside l v)
+    some = omega (arith, inv .table .some, C .longer);
+    first = entry-same 0 (omega (arith, inv .table .some, C .longer)) ∙ inv .table .first;
+    once = (λ k l u v q. inv .table .once k l (inside k u) (inside l v)
         (ap (λ (x : Entry). x .node) (sym (entry-same k u)) ∙ q ∙ ap (λ (x : Entry). x .node) (entry-same l v)));
     listed = (λ k u c. member-cast (entry-same k u) (front-honest law (entryAt rows k) (rw grows (listed′ k u c (ℕ-discrete k i)))));
     stored = (λ x m. stored′ x (append-out (take j (ranked t)) (rw grows at (honest-front law x m))));
@@ -74,10 +74,10 @@ module _ {t : Trellis} (law : Lawful t) {cap room j i : ℕ} {rows : List Row} (
       listed′ : (k : ℕ) → k < length after → rowAt after k .closed ≡ true → Dec (k ≡ i) → entryAt rows k ∈ (take j (ranked t) ++ (entryAt rows i ∷ []))
       listed′ k u c (yes q) = append-right (take j (ranked t)) (here (ap (entryAt rows) q))
       listed′ k u c (no d) =
-          append-left (entryAt rows i ∷ []) (M .table .shut k (C .older k u d) (ap (λ (r : Row). r .closed) (sym (C .others k u d)) ∙ c))
+          append-left (entryAt rows i ∷ []) (inv .table .shut k (C .older k u d) (ap (λ (r : Row). r .closed) (sym (C .others k u d)) ∙ c))
 
       stored′ : (x : Entry) → (x ∈ take j (ranked t)) ⊎ (x ∈ (entryAt rows i ∷ [])) → Stored after x
-      stored′ x (inl m) = go (M .table .stored x m)
+      stored′ x (inl m) = go (inv .table .stored x m)
         where
           apart : (s : Stored rows x) → s .row ≡ i → ⊥
           apart s q = true≢false (sym (s .shut) ∙ ap (λ (k : ℕ). rowAt rows k .closed) q ∙ f .live h)
@@ -104,17 +104,18 @@ pub record Left (t : Trellis) (rows : List Row) (i : ℕ) : Type 0 where
   pub first : i ≡ firstOpen rows
   pub holds : Holds (honest t (leastMetric t)) (closed rows i)
 
+-- so the search leaves it
 pub searched-left : {t : Trellis} → Lawful t → (cap room allowance : ℕ) → 1 ≤ cap → (metric done count i : ℕ)
     → searched t cap room allowance .outcome ≡ found metric done count i → Left t (searched t cap room allowance .rows) i
 searched-left {t} law cap room allowance one metric done count i = go (searched-ending law cap room allowance one)
   where
     go : {e : Ended} → Ending t cap room allowance e → e .outcome ≡ found metric done count i → Left t (e .rows) i
     go (no-room z e) p = let n : _≡_ {A = ℕ} 0 1 = cc (e, p) in absurd (omega arith)
-    go (at-terminal j k rows M f h q l e) p =
+    go (at-terminal j k rows inv f h q l e) p =
         let w : found (costAt rows k) j (rowAt rows k .count) k ≡ found metric done count i = ap (λ (x : Ended). x .outcome) (sym e) ∙ p in
         let m : k ≡ i = cc (w) in
         let r : rows ≡ _ = ap (λ (x : Ended). x .rows) (sym e) in
-        rw (← r, ← m) (record { within = h; first = firstOpen-unique rows k f; holds = found-holds law M f h q })
+        rw (← r, ← m) (record { within = h; first = firstOpen-unique rows k f; holds = found-holds law inv f h q })
     go (out-of-room j rows h k r q e) p = let n : _≡_ {A = ℕ} 0 1 = cc (e, p) in absurd (omega arith)
     go (out-of-steps rows h r e) p = let n : _≡_ {A = ℕ} 0 1 = cc (e, p) in absurd (omega arith)
 

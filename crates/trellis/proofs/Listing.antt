@@ -85,7 +85,7 @@ module _ {sheet : List Entry} {rows : List Row} (H : Holds sheet rows) (sorted :
 
   -- THE NEXT ENTRY has the row that nextClosed finds
   pub listing-next : {d k : ℕ} → Listing sheet rows d k → d < length sheet → Listing sheet rows (suc d) (nextClosed (nodeAt rows k) rows)
-  listing-next {d} {k} L u = record { within = (λ v. F .some (due v .row) (comes v)); equal = (λ v. same v) }
+  listing-next {d} {k} listing u = record { within = (λ v. F .some (due v .row) (comes v)); equal = (λ v. same v) }
     where
       x : Node
       x = nodeAt rows k
@@ -94,7 +94,7 @@ module _ {sheet : List Entry} {rows : List Row} (H : Holds sheet rows) (sorted :
       F = nextClosed-is x rows
 
       own : x ≡ entryOf sheet d .node
-      own = ap (λ (y : Entry). y .node) (L .equal u)
+      own = ap (λ (y : Entry). y .node) (listing .equal u)
 
       -- the row of the next entry
       due : suc d < length sheet → Stored rows (entryOf sheet (suc d))
@@ -137,4 +137,4 @@ module _ (t : Trellis) (m : ℕ) {rows : List Row} (H : Holds (honest t m) rows)
   -- and each next one has the row that nextClosed finds
   pub honest-next : {d k : ℕ} → Listing (honest t m) rows d k → d < length (honest t m)
       → Listing (honest t m) rows (suc d) (nextClosed (nodeAt rows k) rows)
-  honest-next L u = listing-next H (honest-sorted t m) L u
+  honest-next listing u = listing-next H (honest-sorted t m) listing u

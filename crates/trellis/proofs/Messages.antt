@@ -33,6 +33,7 @@ unfolding words
 words-in n [] h = here refl
 words-in n (b ∷ w) h = grown-in n (h b (here refl)) (words-in n w (λ a m. h a (further m)))
 
+-- and back
 pub words-out : (n k : ℕ) {w : List ℕ} → w ∈ words n k → Word n k w
 unfolding words
 words-out n zero {w} m =
@@ -52,6 +53,7 @@ unfolding words
 words-unique n zero = (λ m. nil-out m, tt)
 words-unique n (suc k) = grown-unique n (words n k) (words-unique n k)
 
+-- and so are the messages
 pub messages-unique : (t : Trellis) → Unique (messages t)
 unfolding messages
 messages-unique t = words-unique (t .inputs) (t .span)
@@ -65,6 +67,7 @@ span-allowed t (b ∷ p) h f =
     let k : b < allowed t (length p) = rw (allowed-message t (length p) h) (f b (here refl)) in
     step k (span-allowed t p (omega arith) (λ a m. f a (further m)))
 
+-- and back
 span-fits : {t : Trellis} {p : Path} → Allowed t p → length p ≤ t .span → Every (λ b. b < t .inputs) p
 span-fits start h b m = absurd (nil-out m)
 span-fits {t} (step {p = p} k al) h b m = every-cons (λ b. b < t .inputs) (rw (allowed-message t (length p) h) at k) (span-fits al (omega arith)) b m
@@ -73,6 +76,7 @@ span-fits {t} (step {p = p} k al) h b m = every-cons (λ b. b < t .inputs) (rw (
 length-zeros : (k : ℕ) (p : Path) → length (replicate k 0 ++ p) ≡ k + length p
 length-zeros k p = length-append (replicate k 0) p ∙ ap (λ (n : ℕ). n + length p) (length-replicate {A = ℕ} k 0)
 
+-- zeros after a message are allowed
 tail-allowed : (t : Trellis) (k : ℕ) (p : Path) → k ≤ t .tail → length p ≡ t .span → Allowed t p → Allowed t (replicate k 0 ++ p)
 tail-allowed t zero p h e al = al
 tail-allowed t (suc k) p h e al =
@@ -86,6 +90,7 @@ record Tailed (t : Trellis) (k : ℕ) (p : Path) : Type 0 where
   zeros : p ≡ replicate k 0 ++ drop k p
   rest : Allowed t (drop k p)
 
+-- and nothing else is
 tail-zeros : (t : Trellis) (k : ℕ) (p : Path) → length p ≡ t .span + k → Allowed t p → Tailed t k p
 tail-zeros t zero p e al = record { zeros = refl; rest = al }
 tail-zeros t (suc k) [] e al = absurd (omega arith)
@@ -147,11 +152,12 @@ pub record Least (t : Trellis) (w : List ℕ) : Type 0 where
   pub member : w ∈ messages t
   pub paid : metricOf t w ≡ leastMetric t
 
--- to go from the list to what it says, and back
+-- to go from what the list says to the list
 pub leastMessages-in : {t : Trellis} {w : List ℕ} → Least t w → w ∈ leastMessages t
 unfolding leastMessages
 leastMessages-in {t} h = keep-in (λ w. eqb (metricOf t w) (leastMetric t)) (h .member) (rw (h .paid) (eqb-refl (leastMetric t)))
 
+-- and back
 pub leastMessages-out : (t : Trellis) {w : List ℕ} → w ∈ leastMessages t → Least t w
 unfolding leastMessages
 leastMessages-out t {w} m =

@@ -39,11 +39,12 @@ pub record Met (t : Trellis) (j : ℕ) (x : Node) : Type 0 where
   pub fits : input < allowed t (source .node .level)
   pub equal : x ≡ onto t source input .node
 
--- to go from what was met to the list, and back
+-- to go from what was met to the list
 pub met-in : (t : Trellis) (j : ℕ) (x : Node) → Met t j x → x ∈ metNodes t j
 met-in t j x m =
     further (flatMap-in (λ (e : Entry). successors t (e .node)) (m .member) (successors-in (record { fits = m .fits; leads = m .equal })))
 
+-- and back
 pub met-out : (t : Trellis) (j : ℕ) (x : Node) → x ∈ metNodes t j → (x ≡ origin) ⊎ Met t j x
 met-out t j x (here e) = inl e
 met-out t j x (further m) = inr (go (flatMap-out (λ (e : Entry). successors t (e .node)) (take j (ranked t)) m))
@@ -149,6 +150,7 @@ module _ (t : Trellis) (j : ℕ) where
   abbrev firsts : List Entry
   firsts = take (suc j) (ranked t)
 
+  -- each has its own cost
   known : (e : Entry) → e ∈ firsts → Priced t e
   known e m = ranked-out t (take-out (suc j) (ranked t) e m)
 

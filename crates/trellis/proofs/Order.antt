@@ -26,10 +26,12 @@ byState x y = ltb (x .state) (y .state)
 abbrev pub Earlier : Node → Node → Type 0
 Earlier x y = (x .level < y .level) ⊎ ((x .level ≡ y .level) × (x .state < y .state))
 
+-- to give its reason
 pub earlier-in : (x y : Node) → Earlier x y → T (earlier x y)
 earlier-in x y (inl h) = lexicographic-lt levelOf byState x y h
 earlier-in x y (inr h) = lexicographic-eq levelOf byState x y (h .0) (lt→ltb (x .state) (y .state) (h .1))
 
+-- to split on it
 pub earlier-out : (x y : Node) → T (earlier x y) → Earlier x y
 earlier-out x y h = go (lexicographic-out levelOf byState x y h)
   where
@@ -63,10 +65,12 @@ byNode x y = earlier (x .node) (y .node)
 abbrev pub Before : Entry → Entry → Type 0
 Before x y = (x .cost < y .cost) ⊎ ((x .cost ≡ y .cost) × Earlier (x .node) (y .node))
 
+-- to give its reason
 pub before-in : (x y : Entry) → Before x y → T (before x y)
 before-in x y (inl h) = lexicographic-lt costOf byNode x y h
 before-in x y (inr h) = lexicographic-eq costOf byNode x y (h .0) (earlier-in (x .node) (y .node) (h .1))
 
+-- to split on it
 pub before-out : (x y : Entry) → T (before x y) → Before x y
 before-out x y h = go (lexicographic-out costOf byNode x y h)
   where

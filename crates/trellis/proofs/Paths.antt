@@ -23,10 +23,12 @@ pub allowed-message : (t : Trellis) (l : ℕ) → l < t .span → allowed t l �
 unfolding allowed
 allowed-message t l h = rw (lt-ltb l (t .span) h)
 
+-- in the tail one
 pub allowed-tail : (t : Trellis) (l : ℕ) → t .span ≤ l → l < top t → allowed t l ≡ 1
 unfolding allowed
 allowed-tail t l h k = rw (le-ltb l (t .span) h, lt-ltb l (top t) k)
 
+-- at the top none
 pub allowed-none : (t : Trellis) (l : ℕ) → top t ≤ l → allowed t l ≡ 0
 unfolding allowed
 allowed-none t l h = rw (le-ltb l (t .span) (omega arith), le-ltb l (top t) h)
@@ -65,6 +67,7 @@ paths-in {t} {x} {p} h = subst (λ (l : ℕ). p ∈ paths t l) (h .level) (go (h
     go start = here refl
     go (step {p = q} k al) = grown-in (allowed t (length q)) k (go al)
 
+-- and back
 pub paths-out : (t : Trellis) (k : ℕ) {p : Path} → p ∈ paths t k → Ends t (node k (ends t p)) p
 unfolding paths
 paths-out t zero {p} m = let e : p ≡ [] = singleton-out m in record { allowed = subst (Allowed t) (sym e) start; level = ap length e; state = refl }
@@ -88,6 +91,7 @@ pub pathsTo-in : {t : Trellis} {x : Node} {p : Path} → Ends t x p → p ∈ pa
 unfolding pathsTo
 pathsTo-in {t} {x} h = keep-in (λ p. eqb (ends t p) (x .state)) (paths-in h) (rw (h .state) (eqb-refl (x .state)))
 
+-- and back
 pub pathsTo-out : (t : Trellis) (x : Node) {p : Path} → p ∈ pathsTo t x → Ends t x p
 unfolding pathsTo
 pathsTo-out t x {p} m =
@@ -131,6 +135,7 @@ reachable-in {t} {x} {p} h =
     (member-cast (node-path (sym (h .level)) (sym (h .state)))
     (map-in (endNode t) (flatMap-in (paths t) (below-in (suc (top t)) (omega (arith, path-short (h .allowed)))) (paths-in (ends-here (h .allowed))))))
 
+-- and back
 pub reachable-out : (t : Trellis) {x : Node} → x ∈ reachable t → Reached t x
 unfolding reachable
 reachable-out t {x} m =

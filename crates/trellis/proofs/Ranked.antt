@@ -27,6 +27,7 @@ ranked-in {t} {e} h =
     sort-in before (map (priced t) (reachable t)) e
     (member-cast (entry-path (cost-computed h) refl) (map-in (priced t) (reachable-in (h .there))))
 
+-- and back
 pub ranked-out : (t : Trellis) {e : Entry} → e ∈ ranked t → Priced t e
 unfolding ranked
 ranked-out t {e} m =

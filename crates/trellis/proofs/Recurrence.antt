@@ -40,6 +40,7 @@ pub record Succeeds (t : Trellis) (x y : Node) : Type 0 where
   pub input : ℕ
   pub enters : Enters t y x input
 
+-- and no others
 pub successors-out : (t : Trellis) (x : Node) {y : Node} → y ∈ successors t x → Succeeds t x y
 unfolding successors
 successors-out t x m =
@@ -119,7 +120,7 @@ arrivalsFrom t x y = map (λ b. cost t y + fare t y b) (keep (λ b. same (across
 unfoldable pub arrivals : Trellis → Node → List ℕ
 arrivals t x = flatMap (arrivalsFrom t x) (reachable t)
 
--- to go from the list to a predecessor, and back
+-- to go from a predecessor to the list
 pub arrivals-in : {t : Trellis} {x : Node} {c : ℕ} → Predecessor t x c → c ∈ arrivals t x
 unfolding arrivals
 arrivals-in {t} {x} {c} r =
@@ -131,6 +132,7 @@ arrivals-in {t} {x} {c} r =
     (flatMap-in (arrivalsFrom t x) (reachable-in (r .known .there))
     (map-in (λ b. cost t y + fare t y b) (keep-in (λ b. same (across t y b) x) fits leads)))
 
+-- and back
 pub arrivals-out : (t : Trellis) (x : Node) {c : ℕ} → c ∈ arrivals t x → Predecessor t x c
 unfolding arrivals
 arrivals-out t x m =
@@ -160,6 +162,7 @@ cost-recurrence {t} {x} up h =
 pub reached-step : {t : Trellis} {x y : Node} {b : ℕ} → Reached t y → Enters t x y b → Reached t x
 reached-step {b = b} r e = record { path = b ∷ r .path; there = extend (r .there) e }
 
+-- and back, with the predecessor that gives it its cost
 pub reached-from : {t : Trellis} {x : Node} → 0 < x .level → Reached t x → Predecessor t x (cost t x)
 reached-from up r = predecessor up (cost-is (r .there))
 

@@ -52,25 +52,25 @@ stuck rows h = record { went = (λ e. absurd (true≢false e)); stuck = (λ _. h
 -- one branch more is taken
 taken-more : {t : Trellis} {j b : ℕ} {z : Entry} {taken : List Branch} → z ∈ take j (ranked t) → b < allowed t (z .node .level)
     → Taken t j (From z b) taken → Taken t j (From z (suc b)) (branch z b ∷ taken)
-taken-more {t} {j} {b} {z} {taken} zin u E = record {
-  once = ((λ m. E .new (branch z b) m (refl, omega arith)), E .once);
+taken-more {t} {j} {b} {z} {taken} z-closed u done = record {
+  once = ((λ m. done .new (branch z b) m (refl, omega arith)), done .once);
   sources = (λ f m. sources′ f m);
   fits = (λ f m. fits′ f m);
   new = (λ f m p. new′ f m p);
-  full = (λ f m h. full′ f (E .full f m h));
+  full = (λ f m h. full′ f (done .full f m h));
 }
   where
     sources′ : (f : Branch) → f ∈ (branch z b ∷ taken) → f .source ∈ take j (ranked t)
-    sources′ f (here e) = member-cast (ap (λ (g : Branch). g .source) e) zin
-    sources′ f (further m) = E .sources f m
+    sources′ f (here e) = member-cast (ap (λ (g : Branch). g .source) e) z-closed
+    sources′ f (further m) = done .sources f m
 
     fits′ : (f : Branch) → f ∈ (branch z b ∷ taken) → Fits t f
     fits′ f (here e) = subst (Fits t) (sym e) u
-    fits′ f (further m) = E .fits f m
+    fits′ f (further m) = done .fits f m
 
     new′ : (f : Branch) → f ∈ (branch z b ∷ taken) → From z (suc b) f → ⊥
     new′ f (here e) p = omega (arith, ap (λ (g : Branch). g .input) e, p .1)
-    new′ f (further m) p = E .new f m (p .0, omega (arith, p .1))
+    new′ f (further m) p = done .new f m (p .0, omega (arith, p .1))
 
     full′ : (f : Branch) → (f ∈ taken) ⊎ From z b f → (f ∈ (branch z b ∷ taken)) ⊎ From z (suc b) f
     full′ f (inl m) = inl (further m)
@@ -86,59 +86,60 @@ not-closed true f = absurd (f refl)
 not-closed false f = refl
 
 module _ {t : Trellis} {cap room j i : ℕ} {z : Entry} {b : ℕ} {rows : List Row}
-    (M : Amid t cap room j i z b rows) (u : b < allowed t (nodeAt rows i .level)) where
+    (inv : Amid t cap room j i z b rows) (u : b < allowed t (nodeAt rows i .level)) where
   abbrev g : Branch
   g = branch (entryAt rows i) b
 
   abbrev a : Row
   a = arrival t rows i b
 
-  zin : entryAt rows i ∈ take j (ranked t)
-  zin = M .table .shut i (M .within) (M .shut)
+  z-closed : entryAt rows i ∈ take j (ranked t)
+  z-closed = inv .table .shut i (inv .within) (inv .shut)
 
   link : Link t rows a
-  link = record { within = M .within; shut = M .shut; fits = u; comes = refl }
+  link = record { within = inv .within; shut = inv .shut; fits = u; comes = refl }
 
   -- the rows with the branch's node in place
-  amid-change : (after : List Row) (k : ℕ) (r : Row) → Changed rows after k r → Arrives t cap (M .taken) rows g k r → length after ≤ room
+  amid-change : (after : List Row) (k : ℕ) (r : Row) → Changed rows after k r → Arrives t cap (inv .taken) rows g k r → length after ≤ room
       → Amid t cap room j i z (suc b) after
   amid-change after k r C A h =
-      let same : rowAt after i ≡ rowAt rows i = C .others i (omega (arith, M .within, C .longer)) apart in
+      let same : rowAt after i ≡ rowAt rows i = C .others i (omega (arith, inv .within, C .longer)) apart in
       record {
-        here = ap (λ (s : Row). s .entry) same ∙ M .here;
-        taken = g ∷ M .taken;
-        table = table-change (M .table) C A;
-        all = subst (λ (s : Row). Taken t j (From (s .entry) (suc b)) (g ∷ M .taken)) (sym same) (taken-more zin u (M .all));
-        within = omega (arith, M .within, C .longer);
-        shut = subst (λ (s : Row). s .closed ≡ true) (sym same) (M .shut);
-        counted = subst (λ (s : Row). s .count ≡ min cap (shared t (s .entry))) (sym same) (M .counted);
+        here = ap (λ (s : Row). s .entry) same ∙ inv .here;
+        taken = g ∷ inv .taken;
+        table = table-change (inv .table) C A;
+        all = subst (λ (s : Row). Taken t j (From (s .entry) (suc b)) (g ∷ inv .taken)) (sym same) (taken-more z-closed u (inv .all));
+        within = omega (arith, inv .within, C .longer);
+        shut = subst (λ (s : Row). s .closed ≡ true) (sym same) (inv .shut);
+        counted = subst (λ (s : Row). s .count ≡ min cap (shared t (s .entry))) (sym same) (inv .counted);
         held = h;
       }
     where
       -- the branch leads a level up, so not to row i
       apart : i ≡ k → ⊥
       apart e =
-          let n : r .entry .node ≡ nodeAt rows k = A .known (rw (sym e) (M .within)) .node in
+          let n : r .entry .node ≡ nodeAt rows k = A .known (rw (sym e) (inv .within)) .node in
           omega (arith, ap (λ (x : Node). x .level) n, ap (λ (x : Node). x .level) (A .node), ap (λ (k : ℕ). nodeAt rows k .level) e)
 
   -- the first way at this cost: as many paths as the source has
-  counted-first : ((f : Branch) → f ∈ M .taken → lands t f ≡ a .entry → ⊥) → a .count ≡ min cap (ways t (g ∷ M .taken) (a .entry))
+  counted-first : ((f : Branch) → f ∈ inv .taken → lands t f ≡ a .entry → ⊥) → a .count ≡ min cap (ways t (g ∷ inv .taken) (a .entry))
   unfolding starting
-  counted-first none = omega (arith, M .counted, ways-more t (M .taken) (a .entry) g refl, ways-none t (M .taken) (a .entry) none)
+  counted-first none = omega (arith, inv .counted, ways-more t (inv .taken) (a .entry) g refl, ways-none t (inv .taken) (a .entry) none)
 
   -- ---- the node has a row
 
   module _ (k : ℕ) (h : k < length rows) (e : nodeAt rows k ≡ a .entry .node) where
     only : (l : ℕ) → l < length rows → nodeAt rows l ≡ lands t g .node → l ≡ k
-    only l m q = M .table .once l k m h (q ∙ sym e)
+    only l m q = inv .table .once l k m h (q ∙ sym e)
 
     above : 0 < k
-    above = row-above (M .table) k (nodeAt rows i .level) (ap (λ (x : Node). x .level) e)
+    above = row-above (inv .table) k (nodeAt rows i .level) (ap (λ (x : Node). x .level) e)
 
     -- a closed row is no dearer than any way to it
     closed-low : rowAt rows k .closed ≡ true → costAt rows k ≤ a .entry .cost
     closed-low c =
-        cost-enters (ranked-out t (take-out j (ranked t) (entryAt rows k) (M .table .shut k h c))) (ranked-out t (take-out j (ranked t) (entryAt rows i) zin))
+        cost-enters (ranked-out t (take-out j (ranked t) (entryAt rows k) (inv .table .shut k h c)))
+        (ranked-out t (take-out j (ranked t) (entryAt rows i) z-closed))
         (record { fits = u; leads = e })
 
     -- a cheaper way
@@ -151,14 +152,14 @@ module _ {t : Trellis} {cap room j i : ℕ} {z : Entry} {b : ℕ} {rows : List R
       only = only;
       known = (λ _. record { node = sym e; closed = sym (not-closed (rowAt rows k .closed) live); exact = (λ c. absurd (live c)); cheaper = omega arith });
       fresh = (λ w. absurd (omega arith));
-    }) (rw (length-set rows k a) (M .held))
+    }) (rw (length-set rows k a) (inv .held))
       where
         live : rowAt rows k .closed ≡ true → ⊥
         live c = omega (arith, closed-low c)
 
-        first : (f : Branch) → f ∈ M .taken → lands t f ≡ a .entry → ⊥
+        first : (f : Branch) → f ∈ inv .taken → lands t f ≡ a .entry → ⊥
         first f m q =
-            let s = M .table .reach f m in
+            let s = inv .table .reach f m in
             let w : s .row ≡ k = only (s .row) (s .within) (s .equal ∙ ap (λ (x : Entry). x .node) q) in
             omega (arith, s .small, ap (λ (x : ℕ). costAt rows x) w, ap (λ (x : Entry). x .cost) q)
 
@@ -172,26 +173,26 @@ module _ {t : Trellis} {cap room j i : ℕ} {z : Entry} {b : ℕ} {rows : List R
       node = e;
       small = omega arith;
       link = record { within = own .within; shut = own .shut; fits = own .fits; comes = own .comes };
-      counted = omega (arith, M .counted, M .table .counted k h, ways-more t (M .taken) (entryAt rows k) g (entry-path c (sym e)));
+      counted = omega (arith, inv .counted, inv .table .counted k h, ways-more t (inv .taken) (entryAt rows k) g (entry-path c (sym e)));
       only = only;
       known = (λ _. record { node = refl; closed = refl; exact = (λ _. refl); cheaper = omega arith });
       fresh = (λ w. absurd (omega arith));
-    }) (rw (length-set rows k more) (M .held))
+    }) (rw (length-set rows k more) (inv .held))
       where
         own : Link t rows (rowAt rows k)
-        own = M .table .linked k above h
+        own = inv .table .linked k above h
 
     -- a dearer way
     amid-left : costAt rows k < a .entry .cost → Amid t cap room j i z (suc b) rows
     amid-left l = amid-change rows k (rowAt rows k) same (record {
       node = e;
       small = omega arith;
-      link = M .table .linked k above h;
-      counted = M .table .counted k h ∙ ap (min cap) (sym (ways-same t (M .taken) (entryAt rows k) g (λ q. omega (arith, ap (λ (x : Entry). x .cost) q))));
+      link = inv .table .linked k above h;
+      counted = inv .table .counted k h ∙ ap (min cap) (sym (ways-same t (inv .taken) (entryAt rows k) g (λ q. omega (arith, ap (λ (x : Entry). x .cost) q))));
       only = only;
       known = (λ _. record { node = refl; closed = refl; exact = (λ _. refl); cheaper = omega arith });
       fresh = (λ w. absurd (omega arith));
-    }) (M .held)
+    }) (inv .held)
       where
         same : Changed rows rows k (rowAt rows k)
         same = record { within = h; here = refl; longer = omega arith; older = (λ l m d. m); others = (λ l m d. refl) }
@@ -205,7 +206,7 @@ module _ {t : Trellis} {cap room j i : ℕ} {z : Entry} {b : ℕ} {rows : List R
       node = refl;
       small = omega arith;
       link = link;
-      counted = counted-first (λ f m q. let s = M .table .reach f m in none (s .row) (s .within) (s .equal ∙ ap (λ (x : Entry). x .node) q));
+      counted = counted-first (λ f m q. let s = inv .table .reach f m in none (s .row) (s .within) (s .equal ∙ ap (λ (x : Entry). x .node) q));
       only = (λ l m q. absurd (none l m q));
       known = (λ w. absurd (omega arith));
       fresh = (λ _. refl);
@@ -214,8 +215,8 @@ module _ {t : Trellis} {cap room j i : ℕ} {z : Entry} {b : ℕ} {rows : List R
     -- no room: then D is above it
     amid-full : room ≤ length rows → room < met t j
     amid-full h =
-        let w : length rows < met t j = rows-short (M .table) (a .entry .node)
-        (met-in t j (a .entry .node) (record { source = entryAt rows i; input = b; member = zin; fits = u; equal = refl })) none in
+        let w : length rows < met t j = rows-short (inv .table) (a .entry .node)
+        (met-in t j (a .entry .node) (record { source = entryAt rows i; input = b; member = z-closed; fits = u; equal = refl })) none in
         omega arith
 
   -- ---- one branch

@@ -20,25 +20,26 @@ use Rattle.trellis.proofs.Table.{Link, Table, Covered, Taken}
 abbrev pub nodeOf : Row → Node
 nodeOf r = r .entry .node
 
-module _ {t : Trellis} {cap j : ℕ} {taken : List Branch} {rows : List Row} (B : Table t cap j taken rows) where
+module _ {t : Trellis} {cap j : ℕ} {taken : List Branch} {rows : List Row} (inv : Table t cap j taken rows) where
   -- none twice, so they can be counted
   pub nodes-unique : Unique (map nodeOf rows)
-  nodes-unique = places-unique noRow nodeOf rows (B .once)
+  nodes-unique = places-unique noRow nodeOf rows (inv .once)
 
   -- each of them is met
   row-met : (i : ℕ) → i < length rows → nodeOf (rowAt rows i) ∈ metNodes t j
-  row-met zero h = here (ap (λ (e : Entry). e .node) (B .first))
+  row-met zero h = here (ap (λ (e : Entry). e .node) (inv .first))
   row-met (suc i) h =
-      let k : Link t rows (rowAt rows (suc i)) = B .linked (suc i) (omega arith) h in
+      let k : Link t rows (rowAt rows (suc i)) = inv .linked (suc i) (omega arith) h in
       met-in t j (nodeOf (rowAt rows (suc i)))
       (record {
         source = entryAt rows (rowAt rows (suc i) .parent);
         input = rowAt rows (suc i) .input;
-        member = B .shut (rowAt rows (suc i) .parent) (k .within) (k .shut);
+        member = inv .shut (rowAt rows (suc i) .parent) (k .within) (k .shut);
         fits = k .fits;
         equal = ap (λ (e : Entry). e .node) (k .comes);
       })
 
+  -- so all of them are
   nodes-met : Within (map nodeOf rows) (metNodes t j)
   nodes-met x m = go (map-out nodeOf rows m)
     where
@@ -60,18 +61,18 @@ module _ {t : Trellis} {cap j : ℕ} {taken : List Branch} {rows : List Row} (B 
 
   -- all branches taken: the rows are D(j)
   pub rows-met : Taken t j (λ f. ⊥) taken → length rows ≡ met t j
-  rows-met E = sym (length-map rows nodeOf) ∙ length-all-met t j (map nodeOf rows) nodes-unique nodes-met (λ x m. go x (met-out t j x m))
+  rows-met all = sym (length-map rows nodeOf) ∙ length-all-met t j (map nodeOf rows) nodes-unique nodes-met (λ x m. go x (met-out t j x m))
     where
       at : (i : ℕ) (x : Node) → i < length rows → nodeOf (rowAt rows i) ≡ x → x ∈ map nodeOf rows
       at i x h e = member-cast (sym e) (map-in nodeOf (place-in noRow rows i h))
 
       pick : (f : Branch) → (f ∈ taken) ⊎ ⊥ → Covered rows (lands t f)
-      pick f (inl m) = B .reach f m
+      pick f (inl m) = inv .reach f m
       pick f (inr m) = absurd m
 
       go : (x : Node) → (x ≡ origin) ⊎ Met t j x → x ∈ map nodeOf rows
-      go x (inl e) = at 0 x (B .some) (ap (λ (u : Entry). u .node) (B .first) ∙ sym e)
+      go x (inl e) = at 0 x (inv .some) (ap (λ (u : Entry). u .node) (inv .first) ∙ sym e)
       go x (inr m) =
           let f : Branch = branch (m .source) (m .input) in
-          let s = pick f (E .full f (m .member) (m .fits)) in
+          let s = pick f (all .full f (m .member) (m .fits)) in
           at (s .row) x (s .within) (s .equal ∙ sym (m .equal))

@@ -41,15 +41,18 @@ module _ (t : Trellis) (cap room j : ℕ) (rows : List Row) where
   run-found (suc left) h = rw (run, true-out (same (nodeAt rows (firstOpen rows)) (terminal t)) h)
 
   module _ (off : Arrived t rows → ⊥) where
+    -- no step more is allowed
     pub run-spent : run t cap room 0 j rows ≡ record { rows = rows; outcome = spent j }
     unfolding run
     run-spent = rw (run, false-out (same (nodeAt rows (firstOpen rows)) (terminal t)) off)
 
+    -- the step has no room
     pub run-full : (left : ℕ) → after t cap room rows .full ≡ true
         → run t cap room (suc left) j rows ≡ record { rows = after t cap room rows .rows; outcome = full j }
     unfolding run
     run-full left e = rw (run, false-out (same (nodeAt rows (firstOpen rows)) (terminal t)) off, e)
 
+    -- the step has room
     pub run-on : (left : ℕ) → after t cap room rows .full ≡ false
         → run t cap room (suc left) j rows ≡ run t cap room left (suc j) (after t cap room rows .rows)
     unfolding run
@@ -57,6 +60,7 @@ module _ (t : Trellis) (cap room j : ℕ) (rows : List Row) where
 
 -- ---- how it ends
 
+-- the four ways
 pub data Ending (t : Trellis) (cap room allowance : ℕ) (e : Ended) : Type 0 where
   -- not even the origin has room
   no-room : room ≡ 0 → e ≡ record { rows = []; outcome = full 0 } → Ending t cap room allowance e
@@ -71,14 +75,14 @@ pub data Ending (t : Trellis) (cap room allowance : ℕ) (e : Ended) : Type 0 wh
       → e ≡ record { rows = rows; outcome = spent allowance } → Ending t cap room allowance e
 
 module _ {t : Trellis} (law : Lawful t) {cap room : ℕ} where
-  module _ {j : ℕ} {rows : List Row} (M : Between t cap room j rows) where
+  module _ {j : ℕ} {rows : List Row} (inv : Between t cap room j rows) where
     -- there is an open row
     pub inside : firstOpen rows < length rows
-    inside = between-open M (terminal-reached law)
+    inside = between-open inv (terminal-reached law)
 
     -- the steps so far had room
     pub fits : met t j ≤ room
-    fits = rw (between-met M) at (M .held)
+    fits = rw (between-met inv) at (inv .held)
 
     module _ (off : Arrived t rows → ⊥) where
       apart : nodeAt rows (firstOpen rows) ≡ terminal t → ⊥
@@ -87,36 +91,36 @@ module _ {t : Trellis} (law : Lawful t) {cap room : ℕ} where
       -- the terminal is not first: there is a step more
       pub further : j < steps t
       further =
-          steps-past t (suc j) (terminal-reached law) (next-inside t j (entryAt rows (firstOpen rows)) (N .grows))
-          (λ m. go (append-out (take j (ranked t)) (rw (N .grows) at m)))
+          steps-past t (suc j) (terminal-reached law) (next-inside t j (entryAt rows (firstOpen rows)) (next .grows))
+          (λ m. go (append-out (take j (ranked t)) (rw (next .grows) at m)))
         where
-          N : Next t cap j (firstOpen rows) rows
-          N = between-next M (firstOpen-is rows) inside
+          next : Next t cap j (firstOpen rows) rows
+          next = between-next inv (firstOpen-is rows) inside
 
           go : Closed t j (terminal t) ⊎ (priced t (terminal t) ∈ (entryAt rows (firstOpen rows) ∷ [])) → ⊥
-          go (inl m) = M .table .ahead m
+          go (inl m) = inv .table .ahead m
           go (inr m) = apart (ap (λ (x : Entry). x .node) (sym (singleton-out m)))
 
       -- the run's step
       pub step-going : Going (Between t cap room (suc j)) (room < met t (suc j)) (after t cap room rows)
-      step-going = expand-going M (firstOpen-is rows) inside apart
+      step-going = expand-going inv (firstOpen-is rows) inside apart
 
     -- the terminal is first
     arriving : (left : ℕ) → Arrived t rows → Ending t cap room (j + left) (run t cap room left j rows)
     arriving left h =
-        at-terminal j (firstOpen rows) rows M (firstOpen-is rows) inside (same-equality .sound (nodeAt rows (firstOpen rows)) (terminal t) h) (omega arith)
+        at-terminal j (firstOpen rows) rows inv (firstOpen-is rows) inside (same-equality .sound (nodeAt rows (firstOpen rows)) (terminal t) h) (omega arith)
         (run-found t cap room j rows left h)
 
   -- the whole run ends in one of these ways
   pub run-ending : (left j : ℕ) (rows : List Row) → Between t cap room j rows → Ending t cap room (j + left) (run t cap room left j rows)
-  run-ending zero j rows M = go (test (same (nodeAt rows (firstOpen rows)) (terminal t)))
+  run-ending zero j rows inv = go (test (same (nodeAt rows (firstOpen rows)) (terminal t)))
     where
       go : Dec (Arrived t rows) → Ending t cap room (j + 0) (run t cap room 0 j rows)
-      go (yes h) = arriving M 0 h
+      go (yes h) = arriving inv 0 h
       go (no off) =
           let e : j + 0 ≡ j = omega arith in
-          rw e (out-of-steps rows (further M off) (fits M) (run-spent t cap room j rows off))
-  run-ending (suc left) j rows M =
+          rw e (out-of-steps rows (further inv off) (fits inv) (run-spent t cap room j rows off))
+  run-ending (suc left) j rows inv =
       go (test (same (nodeAt rows (firstOpen rows)) (terminal t))) (after t cap room rows .full) refl
       (λ m. run-ending left (suc j) (after t cap room rows .rows) m)
     where
@@ -126,13 +130,13 @@ module _ {t : Trellis} (law : Lawful t) {cap room : ℕ} where
       go : Dec (Arrived t rows) → (shut : Bool) → next .full ≡ shut
           → (Between t cap room (suc j) (next .rows) → Ending t cap room (suc j + left) (run t cap room left (suc j) (next .rows)))
           → Ending t cap room (j + suc left) (run t cap room (suc left) j rows)
-      go (yes h) shut e ih = arriving M (suc left) h
+      go (yes h) shut e ih = arriving inv (suc left) h
       go (no off) true e ih =
-          out-of-room j (next .rows) (further M off) (omega arith) (fits M) (step-going M off .stuck e) (run-full t cap room j rows off left e)
+          out-of-room j (next .rows) (further inv off) (omega arith) (fits inv) (step-going inv off .stuck e) (run-full t cap room j rows off left e)
       go (no off) false e ih =
           let n : suc j + left ≡ j + suc left = omega arith in
           subst (λ (a : ℕ). Ending t cap room a (run t cap room (suc left) j rows)) n
-          (rw (run-on t cap room j rows off left e) (ih (step-going M off .went e)))
+          (rw (run-on t cap room j rows off left e) (ih (step-going inv off .went e)))
 
 -- and so does the search
 pub searched-ending : {t : Trellis} → Lawful t → (cap room allowance : ℕ) → 1 ≤ cap → Ending t cap room allowance (searched t cap room allowance)

@@ -48,7 +48,7 @@ safe-more h s = record { attained = s .attained; parent = omega (arith, s .paren
 safe-change : {t : Trellis} {cap room : ℕ} {rows after : List Row} {k : ℕ} {r : Row}
     → Safe t cap room rows → Changed rows after k r → SafeRow t cap (length rows) r
     → ((i : ℕ) → i < length rows → nodeAt rows i ≡ r .entry .node → i ≡ k) → length after ≤ room → Safe t cap room after
-safe-change {t} {cap} {room} {rows} {after} {k} {r} S C R only h = record {
+safe-change {t} {cap} {room} {rows} {after} {k} {r} inv C row only h = record {
   held = h;
   each = (λ i l. each′ i l (ℕ-discrete i k));
   once = (λ i l u v e. once′ i l u v e (ℕ-discrete i k) (ℕ-discrete l k));
@@ -58,14 +58,14 @@ safe-change {t} {cap} {room} {rows} {after} {k} {r} S C R only h = record {
     here′ i e = ap (rowAt after) e ∙ C .here
 
     each′ : (i : ℕ) → i < length after → Dec (i ≡ k) → SafeRow t cap (length after) (rowAt after i)
-    each′ i l (yes e) = subst (SafeRow t cap (length after)) (sym (here′ i e)) (safe-more (C .longer) R)
-    each′ i l (no d) = subst (SafeRow t cap (length after)) (sym (C .others i l d)) (safe-more (C .longer) (S .each i (C .older i l d)))
+    each′ i l (yes e) = subst (SafeRow t cap (length after)) (sym (here′ i e)) (safe-more (C .longer) row)
+    each′ i l (no d) = subst (SafeRow t cap (length after)) (sym (C .others i l d)) (safe-more (C .longer) (inv .each i (C .older i l d)))
 
     once′ : (i l : ℕ) → i < length after → l < length after → nodeAt after i ≡ nodeAt after l → Dec (i ≡ k) → Dec (l ≡ k) → i ≡ l
     once′ i l u v e (yes p) (yes q) = p ∙ sym q
     once′ i l u v e (yes p) (no q) = p ∙ sym (only l (C .older l v q) (cc (e, here′ i p, C .others l v q)))
     once′ i l u v e (no p) (yes q) = only i (C .older i u p) (cc (e, here′ l q, C .others i u p)) ∙ sym q
-    once′ i l u v e (no p) (no q) = S .once i l (C .older i u p) (C .older l v q) (cc (e, C .others i u p, C .others l v q))
+    once′ i l u v e (no p) (no q) = inv .once i l (C .older i u p) (C .older l v q) (cc (e, C .others i u p, C .others l v q))
 
 -- ---- the search's steps
 
@@ -77,7 +77,7 @@ pub record Grown (t : Trellis) (cap room i : ℕ) (rows after : List Row) : Type
 
 -- for a branch that changes nothing, for one branch after another, and for the rest after a try
 grown-same : {t : Trellis} {cap room i : ℕ} {rows : List Row} → Safe t cap room rows → Grown t cap room i rows rows
-grown-same S = record { safe = S; longer = omega arith; stays = refl }
+grown-same inv = record { safe = inv; longer = omega arith; stays = refl }
 
 grown-trans : {t : Trellis} {cap room i : ℕ} {rows mid after : List Row}
     → Grown t cap room i rows mid → Grown t cap room i mid after → Grown t cap room i rows after
@@ -114,19 +114,19 @@ allowed-inputs t l w = go (decLt l (t .span)) (decLt l (top t))
     go (no h) (no k) = omega (arith, allowed-none t l (omega arith))
 
 module _ {t : Trellis} {cap room : ℕ} (wide : 0 < t .inputs) where
-  module _ {rows : List Row} (S : Safe t cap room rows) {i : ℕ} (h : i < length rows) where
+  module _ {rows : List Row} (inv : Safe t cap room rows) {i : ℕ} (h : i < length rows) where
     -- closing a row
     pub safe-closed : Safe t cap room (closed rows i)
     safe-closed =
-        let s = S .each i h in
-        safe-change S (set-changed rows i (shut (rowAt rows i)) h) (record { attained = s .attained; parent = s .parent; input = s .input; count = s .count })
-        (λ k l e. S .once k i l h e) (rw (length-set rows i (shut (rowAt rows i))) (S .held))
+        let s = inv .each i h in
+        safe-change inv (set-changed rows i (shut (rowAt rows i)) h) (record { attained = s .attained; parent = s .parent; input = s .input; count = s .count })
+        (λ k l e. inv .once k i l h e) (rw (length-set rows i (shut (rowAt rows i))) (inv .held))
 
     module _ {b : ℕ} (u : b < allowed t (nodeAt rows i .level)) where
       -- what a branch brings is attained too: so the sum of cost and price is bounded before it is stored
       pub safe-arrival : SafeRow t cap (length rows) (arrival t rows i b)
       safe-arrival =
-          let s = S .each i h in
+          let s = inv .each i h in
           record {
             attained = record { path = b ∷ s .attained .path; attains = attains-onto u (s .attained .attains) };
             parent = h;
@@ -148,29 +148,29 @@ module _ {t : Trellis} {cap room : ℕ} (wide : 0 < t .inputs) where
 
           grown : {after : List Row} {k : ℕ} {r : Row} → Changed rows after k r → SafeRow t cap (length rows) r → (i ≡ k → ⊥)
               → ((l : ℕ) → l < length rows → nodeAt rows l ≡ r .entry .node → l ≡ k) → length after ≤ room → Grown t cap room i rows after
-          grown C R d only m = record { safe = safe-change S C R only m; longer = C .longer; stays = C .others i (omega (arith, C .longer)) d }
+          grown C row d only m = record { safe = safe-change inv C row only m; longer = C .longer; stays = C .others i (omega (arith, C .longer)) d }
 
           go : {r : Tried} → Entered cap room rows (arrival t rows i b) r → Grown t cap room i rows (r .rows)
           go (lowers k l e c) =
-              grown (set-changed rows k a l) safe-arrival (apart k e) (λ m n q. S .once m k n l (q ∙ sym e)) (rw (length-set rows k a) (S .held))
+              grown (set-changed rows k a l) safe-arrival (apart k e) (λ m n q. inv .once m k n l (q ∙ sym e)) (rw (length-set rows k a) (inv .held))
           go (joins k l e c) =
-              let s = S .each k l in
+              let s = inv .each k l in
               let r : Row = gained cap (a .count) (rowAt rows k) in
               grown (set-changed rows k r l) (record { attained = s .attained; parent = s .parent; input = s .input; count = omega arith })
-              (apart k e) (λ m n q. S .once m k n l q) (rw (length-set rows k r) (S .held))
-          go (leaves k l e c) = grown-same S
+              (apart k e) (λ m n q. inv .once m k n l q) (rw (length-set rows k r) (inv .held))
+          go (leaves k l e c) = grown-same inv
           go (adds none l) =
               grown (added-changed rows a) safe-arrival (λ q. omega arith) (λ m n q. absurd (none m n q)) (omega (arith, length-append rows (a ∷ [])))
-          go (stops none l) = grown-same S
+          go (stops none l) = grown-same inv
 
   -- so do the branches from an input upwards
   pub safe-fan : (left b : ℕ) {rows : List Row} → Safe t cap room rows → {i : ℕ} → i < length rows → left + b ≤ allowed t (nodeAt rows i .level)
       → Grown t cap room i rows (fan t cap room i left b rows .rows)
   unfolding fan
-  safe-fan zero b S h u = grown-same S
-  safe-fan (suc left) b {rows = rows} S {i = i} h u =
+  safe-fan zero b inv h u = grown-same inv
+  safe-fan (suc left) b {rows = rows} inv {i = i} h u =
       let r : Tried = relax t cap room i b rows in
-      let G : Grown t cap room i rows (r .rows) = safe-relax S h (omega arith) in
+      let G : Grown t cap room i rows (r .rows) = safe-relax inv h (omega arith) in
       let e : allowed t (nodeAt (r .rows) i .level) ≡ allowed t (nodeAt rows i .level) =
       ap (λ (s : Row). allowed t (s .entry .node .level)) (G .stays) in
       onward-grown (r .rows) (r .full) (λ next. fan t cap room i left (suc b) next) G
@@ -179,8 +179,8 @@ module _ {t : Trellis} {cap room : ℕ} (wide : 0 < t .inputs) where
   -- and a whole step
   pub safe-expand : {rows : List Row} → Safe t cap room rows → {i : ℕ} → i < length rows → Safe t cap room (expand t cap room i rows .rows)
   unfolding expand
-  safe-expand {rows = rows} S {i = i} h =
+  safe-expand {rows = rows} inv {i = i} h =
       let C = set-changed rows i (shut (rowAt rows i)) h in
       let e : allowed t (nodeAt (closed rows i) i .level) ≡ allowed t (nodeAt rows i .level) =
       ap (λ (r : Row). allowed t (r .entry .node .level)) (C .here) in
-      safe-fan (allowed t (nodeAt rows i .level)) 0 (safe-closed S h) (C .within) (omega arith) .safe
+      safe-fan (allowed t (nodeAt rows i .level)) 0 (safe-closed inv h) (C .within) (omega arith) .safe

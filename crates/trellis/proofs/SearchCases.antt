@@ -23,6 +23,7 @@ small hard weights = record {
       cond (eqb ((b + s) % 2) (getD hard (l * 2 + 1) 0)) 0 (getD weights (l * 2 + 1) 0));
 }
 
+-- what the search answers, with the least cap
 abbrev answer : Trellis → ℕ → ℕ → Verdict
 answer t room allowance = verdictOf t (searched t 2 room allowance)
 

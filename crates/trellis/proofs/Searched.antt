@@ -19,10 +19,10 @@ module _ {t : Trellis} (law : Lawful t) (cap room allowance : ℕ) where
   unfolding read
   ending-verdict two (no-room z e) =
       ap (verdictOf t) e ∙ sym (subst (λ (r : ℕ). verdict t r allowance ≡ roomShort 0) (sym z) (verdict-none t allowance))
-  ending-verdict two (at-terminal j i rows M f h q l e) =
-      let s : steps t ≡ j = found-right law M f h q .ended in
-      let w : met t (steps t) ≤ room = rw (s, ← between-met M) (M .held) in
-      ap (verdictOf t) e ∙ found-decided law M f h q two ∙ sym (verdict-found t room allowance (omega arith) w)
+  ending-verdict two (at-terminal j i rows inv f h q l e) =
+      let s : steps t ≡ j = found-right law inv f h q .ended in
+      let w : met t (steps t) ≤ room = rw (s, ← between-met inv) (inv .held) in
+      ap (verdictOf t) e ∙ found-decided law inv f h q two ∙ sym (verdict-found t room allowance (omega arith) w)
   ending-verdict two (out-of-room j rows h k p q e) = ap (verdictOf t) e ∙ sym (verdict-full t room allowance j h k p q)
   ending-verdict two (out-of-steps rows h p e) = ap (verdictOf t) e ∙ sym (verdict-spent t room allowance h p)
 
@@ -37,13 +37,13 @@ module _ {t : Trellis} (law : Lawful t) (cap room allowance : ℕ) where
     where
       go : {e : Ended} → Ending t cap room allowance e → e .outcome ≡ found metric done count i → Right t cap (e .rows) metric done count i
       go (no-room z e) p = let n : _≡_ {A = ℕ} 0 1 = cc (e, p) in absurd (omega arith)
-      go (at-terminal j k rows M f h q l e) p =
+      go (at-terminal j k rows inv f h q l e) p =
           let w : found (costAt rows k) j (rowAt rows k .count) k ≡ found metric done count i = ap (λ (x : Ended). x .outcome) (sym e) ∙ p in
           let c : costAt rows k ≡ metric = cc (w) in
           let v : j ≡ done = cc (w) in
           let n : rowAt rows k .count ≡ count = cc (w) in
           let m : k ≡ i = cc (w) in
           let r : rows ≡ _ = ap (λ (x : Ended). x .rows) (sym e) in
-          rw (← r, ← c, ← v, ← n, ← m) (found-right law M f h q)
+          rw (← r, ← c, ← v, ← n, ← m) (found-right law inv f h q)
       go (out-of-room j rows h k r q e) p = let n : _≡_ {A = ℕ} 0 1 = cc (e, p) in absurd (omega arith)
       go (out-of-steps rows h r e) p = let n : _≡_ {A = ℕ} 0 1 = cc (e, p) in absurd (omega arith)

@@ -125,6 +125,7 @@ record Gone (t : Trellis) (f : Branch) (p : Path) : Type 0 where
   paid : metric t rest ≡ f .source .cost
   equal : p ≡ f .input ∷ rest
 
+-- to take it apart
 gone-out : (t : Trellis) (f : Branch) {p : Path} → p ∈ gone t f → Gone t f p
 gone-out t f m =
     let r = map-out (λ p. f .input ∷ p) (sharing t (f .source)) m in
@@ -143,7 +144,7 @@ gone-apart t f g p m n =
     let q : f .source .node .state ≡ g .source .node .state = cc (r .there .state, s .there .state, e) in
     λ i. branch (entry (c i) (l i) (q i)) (b i)
 
-module _ {t : Trellis} {e : Entry} {fs : List Branch} (known : Priced t e) (L : LeastBranches t e fs) where
+module _ {t : Trellis} {e : Entry} {fs : List Branch} (known : Priced t e) (least : LeastBranches t e fs) where
   -- at level 0 there is the origin alone, and it costs nothing
   root : e .node .level ≡ 0 → e ≡ entry 0 0 0
   root l =
@@ -155,7 +156,7 @@ module _ {t : Trellis} {e : Entry} {fs : List Branch} (known : Priced t e) (L : 
   unfolding ends along
   all-least = record {
     once = append-unique (roots (e .node .level)) (flatMap (gone t) fs) (roots-unique (e .node .level))
-        (flatMap-unique (gone t) fs gone-unique (gone-apart t) (L .once))
+        (flatMap-unique (gone t) fs gone-unique (gone-apart t) (least .once))
         (λ p m n. apart p (roots-out (e .node .level) p m .1) (flatMap-out (gone t) fs n));
     there = (λ p m. there′ p (append-out (roots (e .node .level)) m));
     paid = (λ p m. paid′ p (append-out (roots (e .node .level)) m));
@@ -179,15 +180,15 @@ module _ {t : Trellis} {e : Entry} {fs : List Branch} (known : Priced t e) (L : 
       there′ p (inr m) =
           let r = flatMap-out (gone t) fs m in
           let g = gone-out t (r .source) (r .inner) in
-          let leads : e .node ≡ lands t (r .source) .node = ap (λ (u : Entry). u .node) (sym (L .lands-there (r .source) (r .member))) in
-          subst (Ends t (e .node)) (sym (g .equal)) (extend (g .there) (record { fits = L .fits (r .source) (r .member); leads = leads }))
+          let leads : e .node ≡ lands t (r .source) .node = ap (λ (u : Entry). u .node) (sym (least .lands-there (r .source) (r .member))) in
+          subst (Ends t (e .node)) (sym (g .equal)) (extend (g .there) (record { fits = least .fits (r .source) (r .member); leads = leads }))
 
       paid′ : (p : Path) → (p ∈ roots (e .node .level)) ⊎ (p ∈ flatMap (gone t) fs) → metric t p ≡ e .cost
       paid′ p (inl m) = let r = roots-out (e .node .level) p m in ap (metric t) (r .1) ∙ sym (ap (λ (u : Entry). u .cost) (root (r .0)))
       paid′ p (inr m) =
           let r = flatMap-out (gone t) fs m in
           let g = gone-out t (r .source) (r .inner) in
-          let c : lands t (r .source) .cost ≡ e .cost = ap (λ (u : Entry). u .cost) (L .lands-there (r .source) (r .member)) in
+          let c : lands t (r .source) .cost ≡ e .cost = ap (λ (u : Entry). u .cost) (least .lands-there (r .source) (r .member)) in
           ap (metric t) (g .equal) ∙ metric-extend (r .source .input) (g .there) ∙ omega (arith, g .paid)
 
       full′ : (p : Path) → Ends t (e .node) p → metric t p ≡ e .cost → p ∈ (roots (e .node .level) ++ flatMap (gone t) fs)
@@ -196,7 +197,7 @@ module _ {t : Trellis} {e : Entry} {fs : List Branch} (known : Priced t e) (L : 
           let k : Cost t (endNode t q) (cost t (endNode t q)) = cost-is (ends-rest h) in
           let own : cost t (endNode t q) ≡ metric t q = omega (arith, c, k .least q (ends-rest h), cost-enters known k (ends-last h)) in
           let f : Branch = branch (mark t q) b in
-          let m : f ∈ fs = L .full f (subst (λ (u : ℕ). Cost t (endNode t q) u) own k) (ends-last h .fits) (entry-path c (sym (ends-last h .leads))) in
+          let m : f ∈ fs = least .full f (subst (λ (u : ℕ). Cost t (endNode t q) u) own k) (ends-last h .fits) (entry-path c (sym (ends-last h .leads))) in
           append-right (roots (e .node .level))
           (flatMap-in (gone t) m (map-in (λ p. b ∷ p) (leastPaths t (endNode t q) (metric t q) .full q (ends-rest h) refl)))
 

@@ -124,7 +124,7 @@ attains-onto {b = b} u h = record { there = extend (h .there) (record { fits = u
 -- ---- the step
 
 module _ {t : Trellis} {j : ℕ} {Open : Entry → Type 0} (F : Frontier t j Open)
-    (z : Entry) (zin : Open z) (zmin : (e : Entry) → Open e → AtMost z e) where
+    (z : Entry) (z-open : Open z) (z-least : (e : Entry) → Open e → AtMost z e) where
   -- every path ends at a closed node, or not before z
   pub frontier : {p : Path} → Allowed t p → Closed t j (endNode t p) ⊎ AtMost z (mark t p)
   unfolding ends along
@@ -132,7 +132,7 @@ module _ {t : Trellis} {j : ℕ} {Open : Entry → Type 0} (F : Frontier t j Ope
     where
       go : Closed t j origin ⊎ Offered Open (entry 0 0 0) → Closed t j origin ⊎ AtMost z (entry 0 0 0)
       go (inl k) = inl k
-      go (inr o) = inr (at-most-dearer z (entry (o .cost) 0 0) 0 (zmin (entry (o .cost) 0 0) (o .here)) (o .small))
+      go (inr o) = inr (at-most-dearer z (entry (o .cost) 0 0) 0 (z-least (entry (o .cost) 0 0) (o .here)) (o .small))
   frontier (step {b = b} {p = p} u al) = go (frontier al)
     where
       x : Node
@@ -143,7 +143,7 @@ module _ {t : Trellis} {j : ℕ} {Open : Entry → Type 0} (F : Frontier t j Ope
       onward h (inl k) = inl k
       onward h (inr o) =
           let e : Entry = record { cost = o .cost; node = x } in
-          inr (at-most-dearer z e (metric t (b ∷ p)) (zmin e (o .here)) (omega (arith, o .small)))
+          inr (at-most-dearer z e (metric t (b ∷ p)) (z-least e (o .here)) (omega (arith, o .small)))
 
       go : Closed t j (endNode t p) ⊎ AtMost z (mark t p) → Closed t j x ⊎ AtMost z (mark t (b ∷ p))
       go (inl k) = onward (cost-is (ends-here al) .least p (ends-here al)) (F .front (priced t (endNode t p)) b k u)
@@ -162,13 +162,13 @@ module _ {t : Trellis} {j : ℕ} {Open : Entry → Type 0} (F : Frontier t j Ope
 
   -- its cost is right
   pub next-exact : Priced t z
-  next-exact = go (F .reached z zin .attains)
+  next-exact = go (F .reached z z-open .attains)
     where
       go : {p : Path} → Attains t z p → Priced t z
       go {p} r = subst (λ (c : ℕ). Cost t (z .node) c) (sym exact) (cost-is (r .there))
         where
           low : (priced t (z .node) ∈ take j (ranked t)) ⊎ AtMost z (priced t (z .node)) → z .cost ≤ cost t (z .node)
-          low (inl k) = absurd (F .apart z zin k)
+          low (inl k) = absurd (F .apart z z-open k)
           low (inr h) = at-most-cost z (priced t (z .node)) h
 
           exact : z .cost ≡ cost t (z .node)
@@ -178,4 +178,4 @@ module _ {t : Trellis} {j : ℕ} {Open : Entry → Type 0} (F : Frontier t j Ope
   pub next-ranked : take (suc j) (ranked t) ≡ take j (ranked t) ++ (z ∷ [])
   next-ranked =
       sorted-next (ranked t) j z (ranked-sorted t) (ranked-in next-exact)
-      (λ m. F .apart z zin (member-cast (entry-path (sym (cost-computed next-exact)) refl) m)) (λ e m. ranked-after e (ranked-out t m))
+      (λ m. F .apart z z-open (member-cast (entry-path (sym (cost-computed next-exact)) refl) m)) (λ e m. ranked-after e (ranked-out t m))

@@ -153,7 +153,7 @@ survives-same r s e = record {
 }
 
 module _ {t : Trellis} {cap j : ℕ} {taken : List Branch} {rows after : List Row} {g : Branch} {k : ℕ} {r : Row}
-    (B : Table t cap j taken rows) (C : Changed rows after k r) (A : Arrives t cap taken rows g k r) where
+    (inv : Table t cap j taken rows) (C : Changed rows after k r) (A : Arrives t cap taken rows g k r) where
   -- what becomes of each row, the changed one too
   pub survives : (i : ℕ) → i < length rows → Survives (rowAt rows i) (rowAt after i)
   survives i h = go (ℕ-discrete i k)
@@ -181,6 +181,7 @@ module _ {t : Trellis} {cap j : ℕ} {taken : List Branch} {rows after : List Ro
     place : i ≡ k
     equal : rowAt after i ≡ r
 
+  -- it was there, and is as it was
   record Old (i : ℕ) : Type 0 where
     within : i < length rows
     equal : rowAt after i ≡ rowAt rows i
@@ -201,45 +202,45 @@ module _ {t : Trellis} {cap j : ℕ} {taken : List Branch} {rows after : List Ro
   -- the table with the branch taken
   pub table-change : Table t cap j (g ∷ taken) after
   table-change = record {
-    some = omega (arith, B .some, C .longer);
-    first = first′ (view 0 (omega (arith, B .some, C .longer)));
+    some = omega (arith, inv .some, C .longer);
+    first = first′ (view 0 (omega (arith, inv .some, C .longer)));
     linked = (λ i u h. linked′ i u (view i h));
     once = (λ i l h m e. once′ i l h m e (view i h) (view l m));
     shut = (λ i h c. shut′ i c (view i h));
-    stored = (λ e m. stored′ (B .stored e m));
+    stored = (λ e m. stored′ (inv .stored e m));
     reach = (λ f m. reach′ f m);
     counted = (λ i h. counted′ i (view i h));
-    ahead = B .ahead;
+    ahead = inv .ahead;
   }
     where
       first′ : New 0 ⊎ Old 0 → entryAt after 0 ≡ entry 0 0 0
       first′ (inl n) =
-          let v : nodeAt after 0 .level ≡ nodeAt rows 0 .level = ap (λ (u : Node). u .level) (survives 0 (B .some) .node) in
+          let v : nodeAt after 0 .level ≡ nodeAt rows 0 .level = ap (λ (u : Node). u .level) (survives 0 (inv .some) .node) in
           absurd (omega (
             arith,
-            ap (λ (u : Entry). u .node .level) (B .first),
+            ap (λ (u : Entry). u .node .level) (inv .first),
             ap (λ (u : Row). u .entry .node .level) (n .equal),
             ap (λ (u : Node). u .level) (A .node),
           ))
-      first′ (inr o) = ap (λ (u : Row). u .entry) (o .equal) ∙ B .first
+      first′ (inr o) = ap (λ (u : Row). u .entry) (o .equal) ∙ inv .first
 
       linked′ : (i : ℕ) → 0 < i → New i ⊎ Old i → Link t after (rowAt after i)
       linked′ i u (inl n) = subst (Link t after) (sym (n .equal)) (link-more r (A .link))
-      linked′ i u (inr o) = subst (Link t after) (sym (o .equal)) (link-more (rowAt rows i) (B .linked i u (o .within)))
+      linked′ i u (inr o) = subst (Link t after) (sym (o .equal)) (link-more (rowAt rows i) (inv .linked i u (o .within)))
 
       once′ : (i l : ℕ) → i < length after → l < length after → nodeAt after i ≡ nodeAt after l → New i ⊎ Old i → New l ⊎ Old l → i ≡ l
       once′ i l h m e (inl p) (inl q) = p .place ∙ sym (q .place)
       once′ i l h m e (inl p) (inr q) = absurd (alone l q (cc (e, p .equal, q .equal, A .node)))
       once′ i l h m e (inr p) (inl q) = absurd (alone i p (cc (e, q .equal, p .equal, A .node)))
-      once′ i l h m e (inr p) (inr q) = B .once i l (p .within) (q .within) (cc (e, p .equal, q .equal))
+      once′ i l h m e (inr p) (inr q) = inv .once i l (p .within) (q .within) (cc (e, p .equal, q .equal))
 
       again : r .closed ≡ true → Dec (k < length rows) → r .entry ∈ take j (ranked t)
-      again c (yes h) = let v = A .known h in let o : rowAt rows k .closed ≡ true = sym (v .closed) ∙ c in member-cast (v .exact o) (B .shut k h o)
+      again c (yes h) = let v = A .known h in let o : rowAt rows k .closed ≡ true = sym (v .closed) ∙ c in member-cast (v .exact o) (inv .shut k h o)
       again c (no h) = absurd (true≢false (sym c ∙ A .fresh (omega arith)))
 
       shut′ : (i : ℕ) → rowAt after i .closed ≡ true → New i ⊎ Old i → entryAt after i ∈ take j (ranked t)
       shut′ i c (inl n) = member-cast (ap (λ (u : Row). u .entry) (n .equal)) (again (cc (c, n .equal)) (decLt k (length rows)))
-      shut′ i c (inr o) = member-cast (ap (λ (u : Row). u .entry) (o .equal)) (B .shut i (o .within) (cc (c, o .equal)))
+      shut′ i c (inr o) = member-cast (ap (λ (u : Row). u .entry) (o .equal)) (inv .shut i (o .within) (cc (c, o .equal)))
 
       stored′ : {e : Entry} → Stored rows e → Stored after e
       stored′ s =
@@ -255,11 +256,11 @@ module _ {t : Trellis} {cap j : ℕ} {taken : List Branch} {rows after : List Ro
             small = omega (arith, ap (λ (u : Row). u .entry .cost) (C .here), A .small);
           })
       reach′ f (further m) =
-          let s = B .reach f m in
+          let s = inv .reach f m in
           let v = survives (s .row) (s .within) in
           record { row = s .row; within = omega (arith, s .within, C .longer); equal = v .node ∙ s .equal; small = omega (arith, v .cheaper, s .small) }
 
       counted′ : (i : ℕ) → New i ⊎ Old i → rowAt after i .count ≡ min cap (ways t (g ∷ taken) (entryAt after i))
       counted′ i (inl n) = subst (λ (u : Row). u .count ≡ min cap (ways t (g ∷ taken) (u .entry))) (sym (n .equal)) (A .counted)
       counted′ i (inr o) = subst (λ (u : Row). u .count ≡ min cap (ways t (g ∷ taken) (u .entry))) (sym (o .equal))
-          (B .counted i (o .within) ∙ ap (min cap) (sym (ways-same t taken (entryAt rows i) g (λ e. alone i o (ap (λ (u : Entry). u .node) (sym e))))))
+          (inv .counted i (o .within) ∙ ap (min cap) (sym (ways-same t taken (entryAt rows i) g (λ e. alone i o (ap (λ (u : Entry). u .node) (sym e))))))

@@ -20,10 +20,10 @@ unfolding trace
 length-trace rows zero i = refl
 length-trace rows (suc l) i = ap suc (length-trace rows l (rowAt rows i .parent))
 
-module _ {t : Trellis} {cap j : ℕ} {taken : List Branch} {rows : List Row} (B : Table t cap j taken rows) where
+module _ {t : Trellis} {cap j : ℕ} {taken : List Branch} {rows : List Row} (inv : Table t cap j taken rows) where
   -- the row before stands one level lower
   pub parent-level : (i : ℕ) → 0 < i → i < length rows → nodeAt rows i .level ≡ suc (nodeAt rows (rowAt rows i .parent) .level)
-  parent-level i u h = ap (λ (e : Entry). e .node .level) (B .linked i u h .comes)
+  parent-level i u h = ap (λ (e : Entry). e .node .level) (inv .linked i u h .comes)
 
   -- the first row alone stands at level 0
   pub row-zero : (i : ℕ) → i < length rows → nodeAt rows i .level ≡ 0 → i ≡ 0
@@ -32,18 +32,18 @@ module _ {t : Trellis} {cap j : ℕ} {taken : List Branch} {rows : List Row} (B 
 
   -- and all others above it
   pub row-above : (i l : ℕ) → nodeAt rows i .level ≡ suc l → 0 < i
-  row-above zero l e = absurd (omega (arith, ap (λ (u : Entry). u .node .level) (B .first)))
+  row-above zero l e = absurd (omega (arith, ap (λ (u : Entry). u .node .level) (inv .first)))
   row-above (suc i) l e = omega arith
 
   -- the trace ends at the row's node, at the row's cost
   pub trace-attains : (l i : ℕ) → i < length rows → nodeAt rows i .level ≡ l → Attains t (entryAt rows i) (trace rows l i)
   unfolding trace ends along
   trace-attains zero i h e =
-      subst (λ (u : Entry). Attains t u []) (sym (ap (λ (k : ℕ). entryAt rows k) (row-zero i h e) ∙ B .first))
+      subst (λ (u : Entry). Attains t u []) (sym (ap (λ (k : ℕ). entryAt rows k) (row-zero i h e) ∙ inv .first))
       (record { there = ends-here start; paid = refl })
   trace-attains (suc l) i h e =
       let u : 0 < i = row-above i l e in
-      let k : Link t rows (rowAt rows i) = B .linked i u h in
+      let k : Link t rows (rowAt rows i) = inv .linked i u h in
       let ih = trace-attains l (rowAt rows i .parent) (k .within) (omega (arith, parent-level i u h)) in
       subst (λ (u : Entry). Attains t u (rowAt rows i .input ∷ trace rows l (rowAt rows i .parent))) (sym (k .comes))
       (attains-onto (k .fits) ih)

@@ -15,6 +15,7 @@ pub data Allowed (t : Trellis) : Path → Type 0 where
 abbrev pub messageOf : Trellis → Path → List ℕ
 messageOf t p = reverse (drop (t .tail) p)
 
+-- what the laws of the verdict ask
 pub record Lawful (t : Trellis) : Type 0 where
   -- the tail brings every path to state 0
   pub closes : (p : Path) → Allowed t p → length p ≡ top t → ends t p ≡ 0
