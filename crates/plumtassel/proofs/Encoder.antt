@@ -15,7 +15,7 @@ use Rattle.codes.specs.declared.encoder.Encoded.{Encoded}
 use Rattle.codes.specs.declared.encoder.Encoded.the-variants.{Done, BadCode, BadSize, Malformed}
 use Rattle.codes.proofs.Encodings.{encoding-bad-code, encoding-bad-size, encoding-malformed, encoding-done}
 use Rattle.codes.proofs.Rules.{both, from-out}
-use Rattle.blocks.specs.Blocks.{longestBlock}
+use Rattle.blocks.specs.Bounds.{longestBlock}
 use Rattle.blocks.proofs.Weights.{block-short}
 use Rattle.plumtassel.specs.Face.{encoded}
 use Rattle.plumtassel.specs.Made.{encoderAnswer}

@@ -13,7 +13,7 @@ use writer::writer::DecodedSheet;
 use writer::writer::decode_sheet;
 ghost use mathlib.Core.Path.{_≡_};
 ghost use Prim.Native.Nat.{_≤_};
-ghost use Rattle.blocks.specs.Blocks.{longestBlock};
+ghost use Rattle.blocks.specs.Bounds.{longestBlock};
 ghost use Rattle.codes.specs.Codes.{houseCode};
 ghost use Rattle.codes.specs.Encoding.{encoding};
 ghost use Rattle.search.specs.Decoding.{decoding};

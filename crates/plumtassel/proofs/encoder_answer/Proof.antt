@@ -3,7 +3,7 @@ use mathlib.Core.Path.{sym, ap, _∙_}
 use Prim.Native.Nat.{_≤_}
 use native.Mathlib.Omega.{arith}
 use borrow.Author.Needs.{needs}
-use Rattle.blocks.specs.Blocks.{longestBlock}
+use Rattle.blocks.specs.Bounds.{longestBlock}
 use Rattle.plumtassel.specs.Made.{encoderAnswer}
 use Rattle.plumtassel.proofs.encoder_answer.Statement.{statement}
 use Rattle.plumtassel.proofs.encoder_answer.Tie as tie
