@@ -48,7 +48,8 @@ module _ (c : Code) (l : ℕ) (symbols : List ℤ) (room allowance words : ℕ) 
     where
       here : (v : Verdict) → verdict t room allowance ≡ v → lawful c ≡ true → sizesFit c l (length symbols) room words (length message) ≡ true
           → given v message .number ≡ 0 → Answered
-      here (answered w m done) e h k z = record { word = w; answers = record { code = h; sizes = k; answerable = answered-out t room allowance w m done e .answerable } }
+      here (answered w m done) e h k z =
+          record { word = w; answers = record { code = h; sizes = k; answerable = answered-out t room allowance w m done e .answerable } }
       here (roomShort done) e h k z = absurd (omega arith)
       here (allowanceSpent done) e h k z = absurd (omega arith)
       here (tied m done) e h k z = absurd (omega arith)

@@ -25,6 +25,7 @@ pub fanning-cast : {t : Trellis} {cap room i inputs : ℕ} {first rows other : L
     → Fanning t cap room i inputs first other b
 fanning-cast {t} {cap} {room} {i} {inputs} {first} {rows} {other} {b} e f = subst (λ (l : List Row). Fanning t cap room i inputs first l b) (sym e) f
 
+-- for the loop's start: no branch is taken yet
 pub fanning-start : {t : Trellis} {cap room i inputs : ℕ} {rows : List Row} → Safe t cap room rows → i < length rows → inputs ≡ allowed t (nodeAt rows i .level)
     → Fanning t cap room i inputs rows rows 0
 fanning-start {t} {cap} {room} {i} {inputs} {rows} s h e = record {
@@ -37,6 +38,7 @@ fanning-start {t} {cap} {room} {i} {inputs} {rows} s h e = record {
 
 module _ {t : Trellis} {cap room i inputs : ℕ} {first rows : List Row} {b : ℕ} (f : Fanning t cap room i inputs first rows b) where
   module _ (more : b < inputs) where
+    -- the branch at hand and those after it
     one-more : inputs - b ≡ suc (inputs - suc b)
     one-more = omega arith
 

@@ -17,9 +17,8 @@ use Rattle.blocks.specs.Packed.{seenIn}
 use Rattle.blocks.proofs.Closing.{trellis-lawful}
 use Rattle.blocks.proofs.Distance.{metric-total}
 use Rattle.store.specs.Memory.{rowsOf}
-use Rattle.search.specs.Limits.{heaviest}
 use Rattle.search.specs.Decoding.{told, given}
-use Rattle.search.specs.Work.{cap, trellisIn, Searchable, outcomeOf, Halts, Traceable, inFront}
+use Rattle.search.specs.Work.{cap, heaviest, trellisIn, Searchable, outcomeOf, Halts, Traceable, inFront}
 use Rattle.search.specs.Settling.{Refused, Answer, Searches}
 use Rattle.search.specs.declared.decoder.Decoded.the-variants.{Done, NoRoom, NoAllowance, Tied}
 use Rattle.search.specs.declared.decoder.Settled.{Settled}
@@ -29,7 +28,8 @@ use Rattle.search.proofs.Tracing.{searched-traceable, front-whole}
 
 -- ---- an answer
 
-module _ {t : Trellis} (law : Lawful t) {room allowance : ℕ} {first work : List ℕ} {metric steps rows row : ℕ} (A : Answer t room allowance first work metric steps rows row) where
+module _ {t : Trellis} (law : Lawful t) {room allowance : ℕ} {first work : List ℕ} {metric steps rows row : ℕ}
+    (A : Answer t room allowance first work metric steps rows row) where
   -- the way that is traced
   abbrev way : List ℕ
   way = trace (rowsOf work rows) (top t) row
@@ -37,7 +37,8 @@ module _ {t : Trellis} (law : Lawful t) {room allowance : ℕ} {first work : Lis
   -- the trace can go
   pub answer-traceable : Traceable (rowsOf work rows) (top t) row
   answer-traceable =
-      subst (λ (x : List Row). Traceable x (top t) row) (sym (A .shows .rows)) (searched-traceable law cap room allowance (omega arith) metric steps (A .count) row (A .outcome))
+      subst (λ (x : List Row). Traceable x (top t) row) (sym (A .shows .rows))
+      (searched-traceable law cap room allowance (omega arith) metric steps (A .count) row (A .outcome))
 
   -- its message is the verdict's
   pub answer-verdict : verdict t room allowance ≡ answered (messageOf t way) metric steps
@@ -49,7 +50,8 @@ module _ {t : Trellis} (law : Lawful t) {room allowance : ℕ} {first work : Lis
       ∙ rw (le-leb (A .count) 1 (A .alone))
 
   -- and what it writes is handed back
-  pub answer-told : (message exit : List ℕ) → exit ≡ inFront (t .span) (top t) way message → told (Done metric steps) exit ≡ given (verdict t room allowance) message
+  pub answer-told : (message exit : List ℕ) → exit ≡ inFront (t .span) (top t) way message
+      → told (Done metric steps) exit ≡ given (verdict t room allowance) message
   unfolding told given
   answer-told message exit e =
       rw answer-verdict (ap (told (Done metric steps)) (e ∙ front-whole t way message (length-trace (rowsOf work rows) (top t) row)))
@@ -74,7 +76,8 @@ module _ (c : Code) (l : ℕ) (seen : List ℕ) (room allowance : ℕ) {first wo
   halt-read o e = sym (searched-verdict law cap room allowance (omega arith)) ∙ ap (read t (searched t cap room allowance .rows)) (sym (H .outcome) ∙ e)
 
   -- for a halt without room
-  pub halt-full : (steps rows row : ℕ) → h .reached ≡ Full steps → Searches t room allowance first work (record { decoded = NoRoom steps; rows = rows; row = row })
+  pub halt-full : (steps rows row : ℕ) → h .reached ≡ Full steps
+      → Searches t room allowance first work (record { decoded = NoRoom steps; rows = rows; row = row })
   unfolding told given read
   halt-full steps rows row e =
       refuses (record { decoded = NoRoom steps; rows = rows; row = row })
@@ -82,7 +85,8 @@ module _ (c : Code) (l : ℕ) (seen : List ℕ) (room allowance : ℕ) {first wo
       (λ message. sym (ap (λ (v : Verdict). given v message) (halt-read (full steps) (ap outcomeOf e))))
 
   -- for a halt without allowance
-  pub halt-spent : (steps rows row : ℕ) → h .reached ≡ Spent steps → Searches t room allowance first work (record { decoded = NoAllowance steps; rows = rows; row = row })
+  pub halt-spent : (steps rows row : ℕ) → h .reached ≡ Spent steps
+      → Searches t room allowance first work (record { decoded = NoAllowance steps; rows = rows; row = row })
   unfolding told given read
   halt-spent steps rows row e =
       refuses (record { decoded = NoAllowance steps; rows = rows; row = row })
@@ -97,8 +101,9 @@ module _ (c : Code) (l : ℕ) (seen : List ℕ) (room allowance : ℕ) {first wo
     -- the metric fits 32 bits
     pub halt-light : metric < heaviest
     halt-light =
-        let right : Right t cap (searched t cap room allowance .rows) metric steps count i = searched-right law cap room allowance (omega arith) metric steps count i ended in
-        omega (arith, right .traced .paid, metric-total c l (seenIn seen) (s .full) (trace (searched t cap room allowance .rows) (top t) i), s .light)
+        let right : Right t cap (searched t cap room allowance .rows) metric steps count i =
+        searched-right law cap room allowance (omega arith) metric steps count i ended in
+        omega (arith, right .traced .paid, metric-total c l (seenIn seen) (s .sized .full) (trace (searched t cap room allowance .rows) (top t) i), s .light)
 
     -- two paths or more are a tie
     pub halt-tied : (rows row : ℕ) → 1 < count → Searches t room allowance first work (record { decoded = Tied metric steps; rows = rows; row = row })

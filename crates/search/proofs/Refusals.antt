@@ -18,5 +18,6 @@ none x z (inr (inr (inl e))) = omega arith
 none x z (inr (inr (inr (inl e)))) = omega arith
 none x z (inr (inr (inr (inr e)))) = omega arith
 
+-- for the arm of `else`: any tag but that of Done
 pub refused-tag : (r : Decoded) → OneOf (1 ∷ 2 ∷ 3 ∷ 4 ∷ 5 ∷ []) (tagOf the-type r) → Refused r
 refused-tag r k metric steps e = none (tagOf the-type r) (ap (tagOf the-type) e) k

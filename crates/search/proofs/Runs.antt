@@ -63,14 +63,17 @@ module _ {t : Trellis} {cap room allowance : ℕ} {rows : List Row} {steps : ℕ
         sym (r .left) ∙ ap (λ (k : ℕ). run t cap room k steps rows) z ∙ run-spent t cap room steps rows off
 
     module _ (more : (steps ≡ allowance) → ⊥) where
+      -- the step at hand and those after it
       one-more : allowance - steps ≡ suc (allowance - suc steps)
       one-more = omega (arith, r .within)
 
+      -- the run from here, with that step split off
       step : run t cap room (suc (allowance - suc steps)) steps rows ≡ searched t cap room allowance
       step = ap (λ (k : ℕ). run t cap room k steps rows) (sym one-more) ∙ r .left
 
       -- for the return without room
-      pub running-full : after t cap room rows .full ≡ true → searched t cap room allowance ≡ record { rows = after t cap room rows .rows; outcome = full steps }
+      pub running-full : after t cap room rows .full ≡ true
+          → searched t cap room allowance ≡ record { rows = after t cap room rows .rows; outcome = full steps }
       running-full e = sym step ∙ run-full t cap room steps rows off (allowance - suc steps) e
 
       -- for the next turn

@@ -28,8 +28,9 @@ module _ (c : Code) (l : ℕ) (symbols : List ℤ) (room allowance : ℕ) (first
     answered = (λ metric steps e. absurd (never metric steps e));
   }
 
-  -- 1
-  pub settles-bad-code : (rows row : ℕ) → lawful c ≡ false → Settles c l symbols room allowance first buffer work (record { decoded = BadCode; rows = rows; row = row })
+  -- 1: the code is outside the rules
+  pub settles-bad-code : (rows row : ℕ) → lawful c ≡ false
+      → Settles c l symbols room allowance first buffer work (record { decoded = BadCode; rows = rows; row = row })
   unfolding told
   settles-bad-code rows row h =
       refuses (record { decoded = BadCode; rows = rows; row = row })
@@ -37,14 +38,15 @@ module _ (c : Code) (l : ℕ) (symbols : List ℤ) (room allowance : ℕ) (first
       (λ message e. sym (decoding-bad-code c l symbols room allowance (length first) message h))
 
   module _ (own : lawful c ≡ true) where
-    -- 2
+    -- 2: a size is not as stated
     pub settles-bad-size : (rows row : ℕ) → sizesFit c l (length symbols) room (length first) buffer ≡ false
         → Settles c l symbols room allowance first buffer work (record { decoded = BadSize; rows = rows; row = row })
     unfolding told
     settles-bad-size rows row h =
         refuses (record { decoded = BadSize; rows = rows; row = row })
         (λ m s q. let n : _≡_ {A = ℕ} 0 1 = cc (q) in omega arith)
-        (λ message e. sym (decoding-bad-size c l symbols room allowance (length first) message own (ap (sizesFit c l (length symbols) room (length first)) e ∙ h)))
+        (λ message e.
+        sym (decoding-bad-size c l symbols room allowance (length first) message own (ap (sizesFit c l (length symbols) room (length first)) e ∙ h)))
 
     -- the search's own answer, over the block as it was seen
     pub settles-search : (block : List Seen) → block ≡ view symbols → (r : Settled) → sizesFit c l (length symbols) room (length first) buffer ≡ true

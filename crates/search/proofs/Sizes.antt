@@ -21,6 +21,7 @@ use Rattle.search.specs.Work.{Sized, Searchable}
 
 -- ---- the tests passed
 
+-- what each of them says
 pub record Fit (c : Code) (l symbols room words message : ℕ) : Type 0 where
   pub long : l ≤ longestMessage
   pub small : room ≤ largestRoom
@@ -51,11 +52,9 @@ unfolding totalWeight seenIn
 numbers-total [] f = omega arith
 numbers-total (x ∷ numbers) f = omega (arith, f 0, numbers-total numbers (λ i. f (suc i)))
 
+-- for the search: a block of that many numbers weighs less than the heaviest
 pub sized-searchable : {c : Code} {l : ℕ} {seen : List ℕ} → Sized c l seen → ((i : ℕ) → getD seen i 0 < 65536) → Searchable c l seen
 sized-searchable {c} {l} {seen} s f = record {
-  code = s .code;
-  long = s .long;
-  full = s .full;
-  block = s .block;
+  sized = s;
   light = omega (arith, numbers-total seen f, block-short c l (s .code) (s .long), s .block);
 }

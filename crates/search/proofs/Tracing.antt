@@ -37,6 +37,7 @@ module _ (rows : List Row) where
     pub kept : length after ≡ length message
     pub rest : inFront l (level - 1) (trace rows (level - 1) (r .parent)) after ≡ inFront l level (trace rows level i) message
 
+  -- the two ways, with the row as it is read
   left-out : (level i l : ℕ) (message : List ℕ) → 0 < level → l ≤ level - 1 → Put level i l (rowAt rows i) message message
   unfolding trace
   left-out zero i l message h k = absurd (omega arith)

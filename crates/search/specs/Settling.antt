@@ -15,9 +15,8 @@ use Rattle.trellis.specs.Search.{found, searched}
 use Rattle.blocks.specs.Symbols.{view}
 use Rattle.blocks.specs.Blocks.{trellisOf}
 use Rattle.store.specs.Memory.{Shows}
-use Rattle.search.specs.Limits.{heaviest}
 use Rattle.search.specs.Decoding.{told, sizesFit, given, decoding}
-use Rattle.search.specs.Work.{cap}
+use Rattle.search.specs.Work.{cap, heaviest}
 use Rattle.search.specs.declared.decoder.Decoded.{Decoded}
 use Rattle.search.specs.declared.decoder.Decoded.the-variants.{Done}
 use Rattle.search.specs.declared.decoder.Settled.{Settled}
@@ -42,7 +41,8 @@ pub record Searches (t : Trellis) (room allowance : ℕ) (first work : List ℕ)
   pub answered : (metric steps : ℕ) → r .decoded ≡ Done metric steps → Answer t room allowance first work metric steps (r .rows) (r .row)
 
 -- what it came to with its tests, for every message buffer of a length
-pub record Settles (c : Code) (l : ℕ) (symbols : List ℤ) (room allowance : ℕ) (first : List ℕ) (buffer : ℕ) (work : List ℕ) (r : Settled) : Type 0 where
+pub record Settles (c : Code) (l : ℕ) (symbols : List ℤ) (room allowance : ℕ) (first : List ℕ) (buffer : ℕ) (work : List ℕ)
+    (r : Settled) : Type 0 where
   pub refused : Refused (r .decoded) → (message : List ℕ) → length message ≡ buffer
       → told (r .decoded) message ≡ decoding c l symbols room allowance (length first) message
   pub lawful : (metric steps : ℕ) → r .decoded ≡ Done metric steps → lawful c ≡ true

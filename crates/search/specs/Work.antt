@@ -16,7 +16,7 @@ use Rattle.blocks.specs.Blocks.{trellisOf}
 use Rattle.blocks.specs.Bounds.{totalWeight}
 use Rattle.blocks.specs.Packed.{seenIn}
 use Rattle.store.specs.Memory.{Stored, Shows}
-use Rattle.search.specs.Limits.{largestRoom, wordsPerNode, heaviest}
+use Rattle.search.specs.Limits.{largestRoom, wordsPerNode}
 use Rattle.search.specs.declared.step.Tally.{Tally}
 use Rattle.search.specs.declared.run.Halt.{Halt}
 use Rattle.search.specs.declared.run.Reached.{Reached}
@@ -30,6 +30,10 @@ cap = 2
 abbrev pub trellisIn : Code → ℕ → List ℕ → Trellis
 trellisIn c l seen = trellisOf c l (seenIn seen)
 
+-- more than any block weighs: 864 weights, each at most half of the largest number of 16 bits
+abbrev pub heaviest : ℕ
+heaviest = 2 ^ 25
+
 -- ---- what is asked
 
 -- a code, an L and a seen block that were tested
@@ -39,25 +43,21 @@ pub record Sized (c : Code) (l : ℕ) (seen : List ℕ) : Type 0 where
   pub full : c .outputs ≤ length (c .generators)
   pub block : length seen ≡ blockLength c l
 
--- and so all numbers of the search fit their words
+-- and light, so that all numbers of the search fit their words
 pub record Searchable (c : Code) (l : ℕ) (seen : List ℕ) : Type 0 where
-  pub code : lawful c ≡ true
-  pub long : l ≤ longestMessage
-  pub full : c .outputs ≤ length (c .generators)
-  pub block : length seen ≡ blockLength c l
+  pub sized : Sized c l seen
   pub light : totalWeight (seenIn seen) < heaviest
 
--- the memory holds n rows, and has words for as many as the room says
-pub record Roomy (work : List ℕ) (n room : ℕ) : Type 0 where
-  pub stored : Stored work n
-  pub most : n ≤ room
-  pub small : room ≤ largestRoom
-  pub words : wordsPerNode * room ≤ length work
-
--- the memory that was lent is large enough
+-- the memory that was lent has words for as many rows as the room says
 pub record Lent (room : ℕ) (work : List ℕ) : Type 0 where
   pub small : room ≤ largestRoom
   pub words : wordsPerNode * room ≤ length work
+
+-- and it holds n rows
+pub record Roomy (work : List ℕ) (n room : ℕ) : Type 0 where
+  pub stored : Stored work n
+  pub most : n ≤ room
+  pub lent : Lent room work
 
 -- a node of the trellis, at a cost that some path has
 pub record Fitting (c : Code) (l : ℕ) (e : Entry) : Type 0 where

@@ -49,7 +49,10 @@ pub fn decode(
     work: &mut [u64],
     message: &mut [u8],
 ) -> Decoded
-    ensures { λ r. do ⌜ told r (now (message .exit)) ≡ decoding code length (now (symbols .entry)) room allowance (← ⟦work.len()⟧ .entry) (now (message .entry)) ⌝ }
+    ensures { λ r. do
+      words ← ⟦work.len()⟧ .entry
+      ⌜ told r (now (message .exit))
+          ≡ decoding code length (now (symbols .entry)) room allowance words (now (message .entry)) ⌝ }
 {
     let settled = settle(code, length, symbols, room, allowance, work, message.len());
     let decoded = settled.decoded;
@@ -78,7 +81,7 @@ pub fn settle(
     work: &mut [u64],
     buffer: usize,
 ) -> Settled
-    ensures { λ r. do ⌜ Settles code length (now (symbols .entry)) room allowance (now (work .entry)) buffer (now (work .exit)) r ⌝ }
+    ensures { λ r. ⌜ Settles code length (now (symbols .entry)) room allowance (now (work .entry)) buffer (now (work .exit)) r ⌝ }
 {
     if !keeps_rules(code) {
         return Settled {

@@ -9,10 +9,7 @@ ghost use mathlib.Core.Path.{_≡_};
 ghost use Rattle.trellis.specs.Trellis.{node, same};
 ghost use Rattle.trellis.specs.Search.{searched};
 ghost use Rattle.store.specs.Memory.{rowOf};
-ghost use Prim.Native.Nat.{_*_, _≤_};
-ghost use lib.ListN.{length};
-ghost use Rattle.search.specs.Limits.{largestRoom, wordsPerNode};
-ghost use Rattle.search.specs.Work.{cap, trellisIn, Searchable, Halts};
+ghost use Rattle.search.specs.Work.{cap, trellisIn, Searchable, Lent, Halts};
 
 // How the search ended: at the terminal, with its cost, the steps, the count of its least paths and its row; without room for the step
 // after these; with the allowance spent.
@@ -49,8 +46,9 @@ pub fn run(
     allowance: u32,
     work: &mut [u64],
 ) -> Halt
-    requires { ⌜ Searchable code bits (now seen) ⌝ ∗ ⌜ (room ≤ largestRoom) × (wordsPerNode * room ≤ length (now work)) ⌝ }
-    ensures { λ r. ⌜ Halts (now (work .entry)) (now (work .exit)) room r (searched (trellisIn code bits (now (seen .entry))) cap room allowance) ⌝ }
+    requires { ⌜ Searchable code bits (now seen) ⌝ ∗ ⌜ Lent room (now work) ⌝ }
+    ensures { λ r. ⌜ Halts (now (work .entry)) (now (work .exit)) room r
+        (searched (trellisIn code bits (now (seen .entry))) cap room allowance) ⌝ }
 {
     if room == 0 {
         return Halt {

@@ -16,6 +16,7 @@ ghost use Rattle.trellis.specs.Trellis.{allowed};
 ghost use Rattle.trellis.specs.Search.{nodeAt, findRow, firstOpen, entered, relax, expand};
 ghost use Rattle.trellis.proofs.Safe.{Safe};
 ghost use Rattle.store.specs.Memory.{rowOf, rowsOf, Small};
+ghost use Rattle.search.specs.Limits.{largestRoom};
 ghost use Rattle.search.specs.Work.{cap, trellisIn, Searchable, Roomy, Fitting, brought, Tries};
 
 // Least paths are counted up to two.
@@ -30,7 +31,7 @@ pub struct Tally {
 // What the branch with an input brings from a row to the node where it leads.
 fn arrival(code: Code, bits: u64, seen: &[u16], from: Held, i: usize, input: u64) -> Held
     requires { ⌜ Searchable code bits (now seen) ⌝ ∗ ⌜ Fitting code bits (rowOf from .entry) ⌝ }
-    requires { ⌜ (input < allowed (trellisIn code bits (now seen)) (from .level)) × (i < 4096) × Small from ⌝ }
+    requires { ⌜ (input < allowed (trellisIn code bits (now seen)) (from .level)) × (i < largestRoom) × Small from ⌝ }
     ensures { λ r. ⌜ (rowOf r ≡ brought (trellisIn code bits (now (seen .entry))) (rowOf from) i input) × Small r ⌝ }
 {
     let cost = from.cost + price(code, seen, from.level, from.state, input);
@@ -49,7 +50,9 @@ fn arrival(code: Code, bits: u64, seen: &[u16], from: Held, i: usize, input: u64
 // An arrival entered: added if its node is new and there is room, lowered if it is cheaper, joined if it costs the same.
 fn enter(work: &mut [u64], n: usize, room: usize, brought: Held) -> Tally
     requires { ⌜ Roomy (now work) n room ⌝ ∗ ⌜ Small brought ⌝ }
-    ensures { λ r. ⌜ Tries (now (work .entry)) (now (work .exit)) room r (entered cap room (rowsOf (now (work .entry)) n) (rowOf brought) (findRow (rowOf brought .entry .node) (rowsOf (now (work .entry)) n))) ⌝ }
+    ensures { λ r. ⌜ Tries (now (work .entry)) (now (work .exit)) room r
+        (entered cap room (rowsOf (now (work .entry)) n) (rowOf brought)
+        (findRow (rowOf brought .entry .node) (rowsOf (now (work .entry)) n))) ⌝ }
 {
     let k = find(work, n, brought.level, brought.state);
     if k == n {
@@ -100,7 +103,8 @@ fn relax(
     requires { ⌜ Searchable code bits (now seen) ⌝ ∗ ⌜ Roomy (now work) n room ⌝ ∗ ⌜ i < n ⌝ }
     requires { ⌜ Safe (trellisIn code bits (now seen)) cap room (rowsOf (now work) n) ⌝ }
     requires { ⌜ input < allowed (trellisIn code bits (now seen)) (nodeAt (rowsOf (now work) n) i .level) ⌝ }
-    ensures { λ r. ⌜ Tries (now (work .entry)) (now (work .exit)) room r (relax (trellisIn code bits (now (seen .entry))) cap room i input (rowsOf (now (work .entry)) n)) ⌝ }
+    ensures { λ r. ⌜ Tries (now (work .entry)) (now (work .exit)) room r
+        (relax (trellisIn code bits (now (seen .entry))) cap room i input (rowsOf (now (work .entry)) n)) ⌝ }
 {
     let from = row(work, n, i);
     let brought = arrival(code, bits, seen, from, i, input);
@@ -119,7 +123,8 @@ pub fn expand(
 ) -> Tally
     requires { ⌜ Searchable code bits (now seen) ⌝ ∗ ⌜ Roomy (now work) n room ⌝ ∗ ⌜ i < n ⌝ }
     requires { ⌜ Safe (trellisIn code bits (now seen)) cap room (rowsOf (now work) n) ⌝ ∗ ⌜ i ≡ firstOpen (rowsOf (now work) n) ⌝ }
-    ensures { λ r. ⌜ Tries (now (work .entry)) (now (work .exit)) room r (expand (trellisIn code bits (now (seen .entry))) cap room i (rowsOf (now (work .entry)) n)) ⌝ }
+    ensures { λ r. ⌜ Tries (now (work .entry)) (now (work .exit)) room r
+        (expand (trellisIn code bits (now (seen .entry))) cap room i (rowsOf (now (work .entry)) n)) ⌝ }
 {
     let from = row(work, n, i);
     let inputs = allowed(code, bits, from.level);

@@ -25,7 +25,8 @@ settled k = k .before .before .before .before .before
 
 -- the sizes that were tested
 sizes : (k : tie.After-known-told)
-    → let s = entry (settled k) in Fit (s .args .code) (s .args .length) (length (s .args .symbols .now)) (s .args .room) (length (s .args .work .now)) (length (s .args .message .now))
+    → let s = entry (settled k) in
+    Fit (s .args .code) (s .args .length) (length (s .args .symbols .now)) (s .args .room) (length (s .args .work .now)) (length (s .args .message .now))
 sizes k = sizesFit-out _ _ _ _ _ _ (settled k .settle .ensures .fits _ _ (k .before .decoded .given .1))
 
 -- the answer, with its metric and its steps
@@ -33,8 +34,8 @@ answer : (k : tie.After-known-told)
     → let s = entry (settled k) in
     let r = settled k .settle in
     let v = k .before .decoded .given .0 in
-    Answer (trellisOf (s .args .code) (s .args .length) (view (s .args .symbols .now))) (s .args .room) (s .args .allowance) (s .args .work .now) (r .last .1 .1 .1 .1 .1 .0)
-    (v .0) (v .1 .0) (r .result .rows) (r .result .row)
+    Answer (trellisOf (s .args .code) (s .args .length) (view (s .args .symbols .now))) (s .args .room) (s .args .allowance)
+    (s .args .work .now) (r .last .1 .1 .1 .1 .1 .0) (v .0) (v .1 .0) (r .result .rows) (r .result .row)
 answer k = settled k .settle .ensures .answered _ _ (k .before .decoded .given .1)
 
 -- ---- the answers

@@ -1,8 +1,7 @@
 -- `decoder::search` meets its contract: each way in which the run halted is settled as the verdict says (Halting). Assumes nothing.
 use Prim.Native.Nat.{_<_}
 use native.Mathlib.Omega.{arith}
-use Rattle.search.specs.Limits.{heaviest}
-use Rattle.search.specs.Work.{Searchable}
+use Rattle.search.specs.Work.{heaviest, Searchable}
 use Rattle.search.proofs.Sizes.{sized-searchable}
 use Rattle.search.proofs.Halting.{halt-full, halt-spent, halt-light, halt-tied, halt-answered}
 use Rattle.search.proofs.decoder.search.Statement.{statement}
@@ -21,7 +20,7 @@ halted k = k .before .before
 run-requires : tie.Need-run-requires
 run-requires c κs =
     let a = c .before .before in
-    (searchable a, (a .before .pre .1 .small, a .before .pre .1 .words))
+    (searchable a, a .before .pre .1)
 
 enum-known-reached : tie.Need-enum-known-reached
 enum-known-reached c = c .match .keys1
@@ -37,7 +36,8 @@ cast-metric c =
     let r = halted (c .before .before .before) in
     let s = entered r .before in
     let light : c .before .reached3 .given .0 .0 < heaviest =
-    halt-light (s .args .code) (s .args .length) (s .args .seen .now) (s .args .room) (s .args .allowance) (r .run .ensures) _ _ _ _ (searchable (entered r)) (c .before .reached3 .given .1) in
+    halt-light (s .args .code) (s .args .length) (s .args .seen .now) (s .args .room) (s .args .allowance) (r .run .ensures) _ _ _ _
+    (searchable (entered r)) (c .before .reached3 .given .1) in
     omega arith
 
 same-length : tie.Need-same-length
@@ -48,7 +48,8 @@ returns c =
     let k = c .before in
     let r = halted (k .before .before .before) in
     let s = entered r .before in
-    halt-tied (s .args .code) (s .args .length) (s .args .seen .now) (s .args .room) (s .args .allowance) (r .run .ensures) _ _ _ _ (searchable (entered r)) (k .before .reached3 .given .1) _ _ (omega (arith, c .if1 .taken))
+    halt-tied (s .args .code) (s .args .length) (s .args .seen .now) (s .args .room) (s .args .allowance) (r .run .ensures) _ _ _ _
+    (searchable (entered r)) (k .before .reached3 .given .1) _ _ (omega (arith, c .if1 .taken))
 
 same-length-2 : tie.Need-same-length-2
 same-length-2 c = halted (c .before .before .before) .run .kept .1 .1 .1 .1 .1 .0
@@ -66,7 +67,8 @@ returns-3 : tie.Need-returns-3
 returns-3 c =
     let r = halted (c .before .before .before) in
     let s = entered r .before in
-    halt-spent (s .args .code) (s .args .length) (s .args .seen .now) (s .args .room) (s .args .allowance) (r .run .ensures) _ _ _ (c .before .reached2 .given .1)
+    halt-spent (s .args .code) (s .args .length) (s .args .seen .now) (s .args .room) (s .args .allowance) (r .run .ensures) _ _ _
+    (c .before .reached2 .given .1)
 
 same-length-4 : tie.Need-same-length-4
 same-length-4 c = halted (c .before .before .before .before) .run .kept .1 .1 .1 .1 .1 .0
@@ -76,7 +78,8 @@ returns-4 c =
     let k = c .before in
     let r = halted (k .before .before .before) in
     let s = entered r .before in
-    halt-answered (s .args .code) (s .args .length) (s .args .seen .now) (s .args .room) (s .args .allowance) (r .run .ensures) _ _ _ _ (searchable (entered r)) (k .before .reached3 .given .1) (c .if1 .left)
+    halt-answered (s .args .code) (s .args .length) (s .args .seen .now) (s .args .room) (s .args .allowance) (r .run .ensures) _ _ _ _
+    (searchable (entered r)) (k .before .reached3 .given .1) (c .if1 .left)
 
 pub search-spec : {M : Type 1} → statement M
 search-spec =

@@ -34,7 +34,8 @@ abbrev first : tie.Else2 → tie.Start
 first d = entry (d .before .before)
 
 sizes-true : (d : tie.Else2)
-    → let s = first d in sizesFit (s .args .code) (s .args .length) (length (s .args .symbols .now)) (s .args .room) (length (s .args .work .now)) (s .args .buffer) ≡ true
+    → let s = first d in
+    sizesFit (s .args .code) (s .args .length) (length (s .args .symbols .now)) (s .args .room) (length (s .args .work .now)) (s .args .buffer) ≡ true
 sizes-true d = sym (d .before .sizes-fit .ensures) ∙ not-false _ (d .if2 .left)
 
 sizes : (d : tie.Else2)

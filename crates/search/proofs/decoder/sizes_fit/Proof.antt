@@ -34,12 +34,23 @@ mul-if4 c =
 returns-4 : tie.Need-returns-4
 returns-4 c =
     let e = c .before .before .before in
-    rw (le-leb shortestMessage _ (e .before .before .if1 .left), le-leb _ longestMessage (e .before .if2 .left), le-leb _ largestRoom (e .if3 .left), ne-eqb _ _ (c .if4 .taken))
+    rw (
+      le-leb shortestMessage _ (e .before .before .if1 .left),
+      le-leb _ longestMessage (e .before .if2 .left),
+      le-leb _ largestRoom (e .if3 .left),
+      ne-eqb _ _ (c .if4 .taken),
+    )
 
 returns-5 : tie.Need-returns-5
 returns-5 c =
     let e = c .before .before .before .before in
-    rw (le-leb shortestMessage _ (e .before .before .if1 .left), le-leb _ longestMessage (e .before .if2 .left), le-leb _ largestRoom (e .if3 .left), eq-eqb _ _ (c .before .if4 .left), lt-leb _ _ (c .if5 .taken))
+    rw (
+      le-leb shortestMessage _ (e .before .before .if1 .left),
+      le-leb _ longestMessage (e .before .if2 .left),
+      le-leb _ largestRoom (e .if3 .left),
+      eq-eqb _ _ (c .before .if4 .left),
+      lt-leb _ _ (c .if5 .taken),
+    )
 
 mul-result : tie.Need-mul-result
 mul-result c = search needs
@@ -47,7 +58,13 @@ mul-result c = search needs
 returns-6 : tie.Need-returns-6
 returns-6 c =
     let e = c .before .before .before .before in
-    rw (le-leb shortestMessage _ (e .before .before .if1 .left), le-leb _ longestMessage (e .before .if2 .left), le-leb _ largestRoom (e .if3 .left), eq-eqb _ _ (c .before .if4 .left), le-leb _ _ (c .if5 .left))
+    rw (
+      le-leb shortestMessage _ (e .before .before .if1 .left),
+      le-leb _ longestMessage (e .before .if2 .left),
+      le-leb _ largestRoom (e .if3 .left),
+      eq-eqb _ _ (c .before .if4 .left),
+      le-leb _ _ (c .if5 .left),
+    )
 
 pub sizes-fit-spec : {M : Type 1} → statement M
 sizes-fit-spec =

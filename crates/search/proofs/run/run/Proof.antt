@@ -17,13 +17,20 @@ use Rattle.blocks.specs.Packed.{seenIn}
 use Rattle.blocks.proofs.Closing.{trellis-lawful}
 use Rattle.search.specs.Work.{cap, trellisIn, outcomeOf, Roomy, Tries, Halts}
 use Rattle.search.specs.declared.run.Halt.{Halt}
-use Rattle.search.proofs.Runs.{Running, searched-none, running-cast, running-start, running-open, running-found, running-spent, running-full, running-next}
+use Rattle.search.proofs.Fits.{lent-on, tries-roomy}
+use Rattle.search.proofs.Runs.{Running, searched-none, running-cast, running-start, running-open}
+use Rattle.search.proofs.Runs.{running-found, running-spent, running-full, running-next}
 use Rattle.search.proofs.run.run.Statement.{statement}
 use Rattle.search.proofs.run.run.Tie as tie
 
+-- between two steps
+record Going (t : Trellis) (room allowance : ℕ) (first work : List ℕ) (rows steps : ℕ) : Type 0 where
+  roomy : Roomy work rows room
+  kept : length work ≡ length first
+  running : Running t cap room allowance (rowsOf work rows) steps
+
 abbrev Inv-loop : tie.InvT-loop
-Inv-loop code bits seen room allowance work₀ last rows₀ steps₀ work rows steps =
-    Roomy work rows room × (length work ≡ length work₀) × Running (trellisIn code bits seen) cap room allowance (rowsOf work rows) steps
+Inv-loop code bits seen room allowance work₀ last rows₀ steps₀ work rows steps = Going (trellisIn code bits seen) room allowance work₀ work rows steps
 
 abbrev μ-loop : tie.MeasureT-loop
 μ-loop code bits seen room allowance work₀ last rows₀ steps₀ work rows steps = allowance - steps
@@ -46,7 +53,7 @@ abbrev rows : tie.At-loop Inv-loop μ-loop → List Row
 rows a = rowsOf (a .loop .work) (a .loop .rows)
 
 kept : (a : tie.At-loop Inv-loop μ-loop) → length (a .loop .work) ≡ length (entry a .args .work .now)
-kept a = a .loop .inv .1 ∙ starting a .start .ensures .kept
+kept a = a .loop .inv .kept ∙ starting a .start .ensures .kept
 
 -- the row that is read is the first open one, and there is one
 abbrev turn : tie.After-first-open Inv-loop μ-loop → tie.At-loop Inv-loop μ-loop
@@ -55,7 +62,7 @@ turn f = f .before .before
 open-row : (f : tie.After-first-open Inv-loop μ-loop) → f .first-open .result < turn f .loop .rows
 open-row f =
     let a = turn f in
-    omega (arith, f .first-open .ensures, running-open (law (entry a)) (a .loop .inv .2), length-rowsOf (a .loop .work) (a .loop .rows))
+    omega (arith, f .first-open .ensures, running-open (law (entry a)) (a .loop .inv .running), length-rowsOf (a .loop .work) (a .loop .rows))
 
 abbrev asking : tie.After-is-terminal Inv-loop μ-loop → tie.At-loop Inv-loop μ-loop
 asking w = turn (w .before .before .before)
@@ -64,7 +71,8 @@ row-read : (w : tie.After-is-terminal Inv-loop μ-loop) → rowOf (w .before .ro
 row-read w = w .before .row .ensures .0 ∙ ap (rowAt (rows (asking w))) (w .before .before .before .first-open .ensures)
 
 -- what is asked is whether the terminal is first
-asked : (w : tie.After-is-terminal Inv-loop μ-loop) → w .is-terminal .result ≡ same (nodeAt (rows (asking w)) (firstOpen (rows (asking w)))) (terminal (trellis (entry (asking w))))
+asked : (w : tie.After-is-terminal Inv-loop μ-loop)
+    → w .is-terminal .result ≡ same (nodeAt (rows (asking w)) (firstOpen (rows (asking w)))) (terminal (trellis (entry (asking w))))
 asked w = w .is-terminal .ensures ∙ ap (λ (r : Row). same (r .entry .node) (terminal (trellis (entry (asking w))))) (row-read w)
 
 off : (e : tie.Else2 Inv-loop μ-loop) → Arrived (trellis (entry (asking (e .before)))) (rows (asking (e .before))) → ⊥
@@ -77,7 +85,7 @@ halts {first} {mid} {work} {room} {h} {e} k s m o w =
     subst (Halts first work room h) (sym w) (record { shows = record { stored = s .stored; rows = s .rows; kept = s .kept ∙ k }; most = m; outcome = o })
 
 unchanged : (a : tie.At-loop Inv-loop μ-loop) → Shows (a .loop .work) (a .loop .work) (a .loop .rows) (rows a)
-unchanged a = record { stored = a .loop .inv .0 .stored; rows = refl; kept = refl }
+unchanged a = record { stored = a .loop .inv .roomy .stored; rows = refl; kept = refl }
 
 -- the step that was tried is the pure search's
 tried : (k : tie.After-expand Inv-loop μ-loop) → let a = asking (k .before .before .before .before) in
@@ -85,7 +93,8 @@ tried : (k : tie.After-expand Inv-loop μ-loop) → let a = asking (k .before .b
 tried k =
     let f = k .before .before .before .before .before .before .before in
     let a = turn f in
-    subst (λ (i : ℕ). Tries (a .loop .work) (k .expand .last .1 .1 .1 .0) (entry a .args .room) (k .expand .result) (expand (trellis (entry a)) cap (entry a .args .room) i (rows a)))
+    subst (λ (i : ℕ). Tries (a .loop .work) (k .expand .last .1 .1 .1 .0) (entry a .args .room) (k .expand .result)
+    (expand (trellis (entry a)) cap (entry a .args .room) i (rows a)))
     (f .first-open .ensures) (k .expand .ensures)
 
 -- ---- the answers
@@ -93,10 +102,11 @@ tried k =
 returns : tie.Need-returns Inv-loop μ-loop
 returns c =
     let s = c .before .before .before in
-    halts {mid = s .args .work .now} refl (none-shows (s .args .work .now)) (omega arith) refl (searched-none (trellis s) cap (s .args .room) (s .args .allowance) (c .if1 .taken))
+    halts {mid = s .args .work .now} refl (none-shows (s .args .work .now)) (omega arith) refl
+    (searched-none (trellis s) cap (s .args .room) (s .args .allowance) (c .if1 .taken))
 
 start-requires : tie.Need-start-requires Inv-loop μ-loop
-start-requires c κs = let s = c .before .before .before .before in omega (arith, s .pre .1 .1, c .before .if1 .left)
+start-requires c κs = let s = c .before .before .before .before in omega (arith, s .pre .1 .words, c .before .if1 .left)
 
 cast-last : tie.Need-cast-last Inv-loop μ-loop
 cast-last c = search needs
@@ -104,24 +114,25 @@ cast-last c = search needs
 add-last : tie.Need-add-last Inv-loop μ-loop
 add-last c =
     let s = c .before .before .before .before .before .before .before .before in
-    omega (arith, s .pre .0 .long, lawful-out (s .args .code) (s .pre .0 .code) .memory-most)
+    omega (arith, s .pre .0 .sized .long, lawful-out (s .args .code) (s .pre .0 .sized .code) .memory-most)
 
 loop-holds : tie.Need-loop-holds Inv-loop μ-loop
 loop-holds c =
     let k = c .before .before .before in
     let s = k .before .before .before .before .before in
     let h = k .start .ensures in
-    let some : 0 < s .args .room = omega (arith, k .before .before .if1 .left) in (
-      record { stored = h .stored; most = some; small = s .pre .1 .0; words = omega (arith, h .kept, s .pre .1 .1) },
-      refl,
-      running-cast (h .rows) (running-start (s .args .room) (s .args .allowance) (law s) (omega arith) some),
-    )
+    let some : 0 < s .args .room = omega (arith, k .before .before .if1 .left) in
+    record {
+      roomy = record { stored = h .stored; most = some; lent = lent-on (h .kept) (s .pre .1) };
+      kept = refl;
+      running = running-cast (h .rows) (running-start (s .args .room) (s .args .allowance) (law s) (omega arith) some);
+    }
 
 first-open-requires : tie.Need-first-open-requires Inv-loop μ-loop
 first-open-requires c κs = search needs
 
 row-requires : tie.Need-row-requires Inv-loop μ-loop
-row-requires c κs = let f = c .before in (turn f .loop .inv .0 .stored, open-row f)
+row-requires c κs = let f = c .before in (turn f .loop .inv .roomy .stored, open-row f)
 
 is-terminal-requires : tie.Need-is-terminal-requires Inv-loop μ-loop
 is-terminal-requires c κs = tt
@@ -134,9 +145,9 @@ returns-2 c =
     let w = c .before in
     let a = asking w in
     let s = entry a in
-    halts {mid = a .loop .work} {e = arrived (rows a) (firstOpen (rows a)) (a .loop .steps)} (kept a) (unchanged a) (a .loop .inv .0 .most)
+    halts {mid = a .loop .work} {e = arrived (rows a) (firstOpen (rows a)) (a .loop .steps)} (kept a) (unchanged a) (a .loop .inv .roomy .most)
     (λ z. found (row-read w z .entry .cost) (a .loop .steps) (row-read w z .count) (w .before .before .before .first-open .ensures z))
-    (running-found (law s) (a .loop .inv .2) (subst T (sym (sym (asked w) ∙ c .if2 .taken)) tt))
+    (running-found (law s) (a .loop .inv .running) (subst T (sym (sym (asked w) ∙ c .if2 .taken)) tt))
 
 same-length-2 : tie.Need-same-length-2 Inv-loop μ-loop
 same-length-2 c = kept (asking (c .before .before))
@@ -145,7 +156,8 @@ returns-3 : tie.Need-returns-3 Inv-loop μ-loop
 returns-3 c =
     let e = c .before in
     let a = asking (e .before) in
-    halts {mid = a .loop .work} (kept a) (unchanged a) (a .loop .inv .0 .most) refl (running-spent (law (entry a)) (a .loop .inv .2) (off e) (c .if3 .taken))
+    halts {mid = a .loop .work} (kept a) (unchanged a) (a .loop .inv .roomy .most) refl
+    (running-spent (law (entry a)) (a .loop .inv .running) (off e) (c .if3 .taken))
 
 expand-requires : tie.Need-expand-requires Inv-loop μ-loop
 expand-requires c κs =
@@ -153,7 +165,7 @@ expand-requires c κs =
     let a = asking w in
     let f = w .before .before .before in
     let s = entry a in
-    (s .pre .0, (a .loop .inv .0, (open-row f, (a .loop .inv .2 .safe, f .first-open .ensures))))
+    (s .pre .0, (a .loop .inv .roomy, (open-row f, (a .loop .inv .running .safe, f .first-open .ensures))))
 
 same-length-3 : tie.Need-same-length-3 Inv-loop μ-loop
 same-length-3 c = let k = c .before .before .before in k .expand .ensures .shows .kept ∙ kept (asking (k .before .before .before .before))
@@ -165,19 +177,20 @@ returns-4 c =
     let e = d .before in
     let a = asking (e .before) in
     let t = tried k in
-    halts {mid = a .loop .work} (kept a) (t .shows) (t .most) refl (running-full (law (entry a)) (a .loop .inv .2) (off e) (d .if3 .left) (sym (t .full) ∙ c .if4 .taken))
+    halts {mid = a .loop .work} (kept a) (t .shows) (t .most) refl
+    (running-full (law (entry a)) (a .loop .inv .running) (off e) (d .if3 .left) (sym (t .full) ∙ c .if4 .taken))
 
 add-steps : tie.Need-add-steps Inv-loop μ-loop
 add-steps c =
     let d = c .before .before .before .before .before in
     let a = asking (d .before .before) in
-    omega (arith, a .loop .inv .2 .within, d .if3 .left, entry a .fits .allowance .fits)
+    omega (arith, a .loop .inv .running .within, d .if3 .left, entry a .fits .allowance .fits)
 
 loop-less : tie.Need-loop-less Inv-loop μ-loop
 loop-less c =
     let d = c .before .before .before .before .before in
     let a = asking (d .before .before) in
-    omega (arith, a .loop .inv .2 .within, d .if3 .left)
+    omega (arith, a .loop .inv .running .within, d .if3 .left)
 
 loop-again : tie.Need-loop-again Inv-loop μ-loop
 loop-again c =
@@ -186,11 +199,13 @@ loop-again c =
     let e = d .before in
     let a = asking (e .before) in
     let t = tried k in
-    let r = a .loop .inv .0 in (
-      record { stored = t .shows .stored; most = t .most; small = r .small; words = omega (arith, t .shows .kept, r .words) },
-      t .shows .kept ∙ a .loop .inv .1,
-      running-cast (t .shows .rows) (running-next (law (entry a)) (a .loop .inv .2) (off e) (d .if3 .left) (sym (t .full) ∙ c .if4 .left)),
-    )
+    record {
+      roomy = tries-roomy t (a .loop .inv .roomy .lent);
+      kept = t .shows .kept ∙ a .loop .inv .kept;
+      running =
+          running-cast (t .shows .rows)
+          (running-next (law (entry a)) (a .loop .inv .running) (off e) (d .if3 .left) (sym (t .full) ∙ c .if4 .left));
+    }
 
 pub run-spec : {M : Type 1} → statement M
 run-spec =

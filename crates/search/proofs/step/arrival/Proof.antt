@@ -18,8 +18,11 @@ add-cost c = search needs
 
 next-requires : tie.Need-next-requires
 next-requires c κs =
-    let s = c .before .before .before in
-    (lawful-out (s .args .code) (s .pre .0 .code) .memory-most, s .pre .1 .0 .state, fitting-priceable (s .pre .0) (s .pre .1 .0) (s .pre .1 .1 .0) .input-bit)
+    let s = c .before .before .before in (
+      lawful-out (s .args .code) (s .pre .0 .sized .code) .memory-most,
+      s .pre .1 .0 .state,
+      fitting-priceable (s .pre .0) (s .pre .1 .0) (s .pre .1 .1 .0) .input-bit,
+    )
 
 add-t9 : tie.Need-add-t9
 add-t9 c = search needs
@@ -31,7 +34,7 @@ returns c =
     let from = s .args .from in
     let f = s .pre .1 .0 in
     let bit = fitting-priceable (s .pre .0) f (s .pre .1 .1 .0) .input-bit in
-    let b = lawful-out (s .args .code) (s .pre .0 .code) in (
+    let b = lawful-out (s .args .code) (s .pre .0 .sized .code) in (
       λ z. record {
         entry = entry (from .cost + p .price .ensures .0 z) (add-one (from .level) z) (c .before .next .ensures .0 z);
         count = from .count;
@@ -41,7 +44,7 @@ returns c =
       },
       record {
         cost = omega (arith, f .cost, p .price .ensures .1);
-        level = omega (arith, fitting-higher (s .pre .0) (from .level) (s .args .input) (s .pre .1 .1 .0), s .pre .0 .long, b .memory-most);
+        level = omega (arith, fitting-higher (s .pre .0) (from .level) (s .args .input) (s .pre .1 .1 .0), s .pre .0 .sized .long, b .memory-most);
         state = state-small (s .pre .0) (c .before .next .ensures .1);
         count = s .pre .1 .1 .2 .count;
         parent = omega (arith, s .pre .1 .1 .1);

@@ -81,7 +81,8 @@ returns c =
     let p = c .before .before in
     let t = p .before .before in
     let q = t .before .before in
-    tries q (entered-adds cap (entry q .args .room) (rows q) (arrived q) (place q) (omega (arith, long q, t .before .if1 .taken)) (omega (arith, long q, t .if2 .taken)))
+    tries q (entered-adds cap (entry q .args .room) (rows q) (arrived q) (place q) (omega (arith, long q, t .before .if1 .taken))
+    (omega (arith, long q, t .if2 .taken)))
     (record { shows = p .add .ensures; most = omega (arith, t .if2 .taken); full = refl })
 
 same-length-2 : tie.Need-same-length-2
@@ -90,7 +91,8 @@ same-length-2 c = search needs
 returns-2 : tie.Need-returns-2
 returns-2 c =
     let q = c .before .before in
-    tries q (entered-stops cap (entry q .args .room) (rows q) (arrived q) (place q) (omega (arith, long q, c .before .if1 .taken)) (omega (arith, long q, c .if2 .left)))
+    tries q (entered-stops cap (entry q .args .room) (rows q) (arrived q) (place q) (omega (arith, long q, c .before .if1 .taken))
+    (omega (arith, long q, c .if2 .left)))
     (record { shows = unchanged q; most = entry q .pre .0 .most; full = refl })
 
 row-requires : tie.Need-row-requires

@@ -14,13 +14,19 @@ use Rattle.store.proofs.Rows.{length-rowsOf}
 use Rattle.blocks.specs.Packed.{seenIn}
 use Rattle.search.specs.Work.{cap, trellisIn, Roomy, Tries}
 use Rattle.search.specs.declared.step.Tally.{Tally}
+use Rattle.search.proofs.Fits.{lent-on, tries-roomy}
 use Rattle.search.proofs.Fans.{Fanning, fanning-cast, fanning-start, fanning-full, fanning-next, fanning-done}
 use Rattle.search.proofs.step.expand.Statement.{statement}
 use Rattle.search.proofs.step.expand.Tie as tie
 
+-- between two branches
+record Going (t : Trellis) (n room i inputs : ℕ) (first work : List ℕ) (rows input : ℕ) : Type 0 where
+  roomy : Roomy work rows room
+  kept : length work ≡ length first
+  fanning : Fanning t cap room i inputs (rowsOf first n) (rowsOf work rows) input
+
 abbrev Inv-loop : tie.InvT-loop
-Inv-loop code bits seen work₀ n room i inputs rows₀ input₀ work rows input =
-    Roomy work rows room × (length work ≡ length work₀) × Fanning (trellisIn code bits seen) cap room i inputs (rowsOf work₀ n) (rowsOf work rows) input
+Inv-loop code bits seen work₀ n room i inputs rows₀ input₀ work rows input = Going (trellisIn code bits seen) n room i inputs work₀ work rows input
 
 abbrev μ-loop : tie.MeasureT-loop
 μ-loop code bits seen work₀ n room i inputs rows₀ input₀ work rows input = inputs - input
@@ -50,7 +56,8 @@ inside k = let s = entry k in omega (arith, length-rowsOf (s .args .work .now) (
 allows : (k : tie.After-close Inv-loop μ-loop) → allowing k .allowed .result ≡ allowed (trellis k) (nodeAt (opening k) (entry k .args .i) .level)
 allows k =
     let s = entry k in
-    allowing k .allowed .ensures (seenIn (s .args .seen .now)) ∙ ap (λ (r : Row). allowed (trellis k) (r .entry .node .level)) (allowing k .before .row .ensures .0)
+    allowing k .allowed .ensures (seenIn (s .args .seen .now))
+    ∙ ap (λ (r : Row). allowed (trellis k) (r .entry .node .level)) (allowing k .before .row .ensures .0)
 
 -- so the whole fan is the expansion
 whole : (k : tie.After-close Inv-loop μ-loop) (work : List ℕ) → rowsOf work (entry k .args .n) ≡ closed (opening k) (entry k .args .i)
@@ -66,7 +73,7 @@ based {first} {mid} {work} {room} {r} {p} e d t =
     (record { shows = record { stored = t .shows .stored; rows = t .shows .rows; kept = t .shows .kept ∙ e }; most = t .most; full = t .full })
 
 kept : (a : tie.At-loop Inv-loop μ-loop) → length (a .loop .work) ≡ length (entry (closing a) .args .work .now)
-kept a = a .loop .inv .1 ∙ closing a .close .ensures .kept
+kept a = a .loop .inv .kept ∙ closing a .close .ensures .kept
 
 -- ---- the answers
 
@@ -88,20 +95,27 @@ loop-holds c =
     let h = k .close .ensures in
     let C = set-changed (opening k) (s .args .i) (shut (rowAt (opening k) (s .args .i))) (inside k) in
     let open-allows : allowing k .allowed .result ≡ allowed (trellis k) (nodeAt (closed (opening k) (s .args .i)) (s .args .i) .level) =
-    allows k ∙ ap (λ (r : Row). allowed (trellis k) (r .entry .node .level)) (sym (C .here)) in (
-      record { stored = h .stored; most = s .pre .1 .0 .most; small = s .pre .1 .0 .small; words = omega (arith, h .kept, s .pre .1 .0 .words) },
-      refl,
-      subst (λ (l : List Row). Fanning (trellis k) cap (s .args .room) (s .args .i) (allowing k .allowed .result) l l 0) (sym (h .rows))
-          (fanning-start (safe-closed (omega arith) (s .pre .1 .1 .1 .0) (inside k)) (C .within) open-allows),
-    )
+    allows k ∙ ap (λ (r : Row). allowed (trellis k) (r .entry .node .level)) (sym (C .here)) in
+    record {
+      roomy = record { stored = h .stored; most = s .pre .1 .0 .most; lent = lent-on (h .kept) (s .pre .1 .0 .lent) };
+      kept = refl;
+      fanning =
+          subst (λ (l : List Row). Fanning (trellis k) cap (s .args .room) (s .args .i) (allowing k .allowed .result) l l 0) (sym (h .rows))
+          (fanning-start (safe-closed (omega arith) (s .pre .1 .1 .1 .0) (inside k)) (C .within) open-allows);
+    }
 
 relax-requires : tie.Need-relax-requires Inv-loop μ-loop
 relax-requires c κs =
     let w = c .before in
     let a = w .before in
     let s = entry (closing a) in
-    let f = a .loop .inv .2 in
-    (s .pre .0, (a .loop .inv .0, (omega (arith, f .there, length-rowsOf (a .loop .work) (a .loop .rows)), (f .safe, omega (arith, f .allows, w .loop-test .taken)))))
+    let f = a .loop .inv .fanning in (
+      s .pre .0,
+      (
+        a .loop .inv .roomy,
+        (omega (arith, f .there, length-rowsOf (a .loop .work) (a .loop .rows)), (f .safe, omega (arith, f .allows, w .loop-test .taken))),
+      ),
+    )
 
 same-length : tie.Need-same-length Inv-loop μ-loop
 same-length c = let k = c .before .before .before in k .relax .ensures .shows .kept ∙ kept (k .before .before .before)
@@ -111,7 +125,7 @@ returns c =
     let k = c .before .before .before in
     let w = k .before .before in
     let a = w .before in
-    let full = fanning-full (a .loop .inv .2) (w .loop-test .taken) (sym (k .relax .ensures .full) ∙ c .if1 .taken) in
+    let full = fanning-full (a .loop .inv .fanning) (w .loop-test .taken) (sym (k .relax .ensures .full) ∙ c .if1 .taken) in
     based (kept a) (whole (closing a) _ (closing a .close .ensures .rows) ∙ full) (k .relax .ensures)
 
 add-input : tie.Need-add-input Inv-loop μ-loop
@@ -126,11 +140,13 @@ loop-again c =
     let w = k .before .before in
     let a = w .before in
     let t = k .relax .ensures in
-    let r = a .loop .inv .0 in (
-      record { stored = t .shows .stored; most = t .most; small = r .small; words = omega (arith, t .shows .kept, r .words) },
-      t .shows .kept ∙ a .loop .inv .1,
-      fanning-cast (t .shows .rows) (fanning-next (a .loop .inv .2) (w .loop-test .taken) (omega arith) (sym (t .full) ∙ c .if1 .left)),
-    )
+    record {
+      roomy = tries-roomy t (a .loop .inv .roomy .lent);
+      kept = t .shows .kept ∙ a .loop .inv .kept;
+      fanning =
+          fanning-cast (t .shows .rows)
+          (fanning-next (a .loop .inv .fanning) (w .loop-test .taken) (omega arith) (sym (t .full) ∙ c .if1 .left));
+    }
 
 same-length-2 : tie.Need-same-length-2 Inv-loop μ-loop
 same-length-2 c = kept (c .before)
@@ -138,8 +154,8 @@ same-length-2 c = kept (c .before)
 returns-2 : tie.Need-returns-2 Inv-loop μ-loop
 returns-2 c =
     let a = c .before in
-    let r = a .loop .inv .0 in
-    based {mid = a .loop .work} (kept a) (whole (closing a) _ (closing a .close .ensures .rows) ∙ fanning-done (a .loop .inv .2) (c .loop-test .left))
+    let r = a .loop .inv .roomy in
+    based {mid = a .loop .work} (kept a) (whole (closing a) _ (closing a .close .ensures .rows) ∙ fanning-done (a .loop .inv .fanning) (c .loop-test .left))
     (record { shows = record { stored = r .stored; rows = refl; kept = refl }; most = r .most; full = refl })
 
 pub expand-spec : {M : Type 1} → statement M

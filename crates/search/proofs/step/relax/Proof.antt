@@ -17,7 +17,8 @@ use Rattle.search.proofs.step.relax.Tie as tie
 
 -- an arrival by another name is entered alike
 renamed : {first work : List ℕ} {room : ℕ} {r : Tally} {a b : Row} (rows : List Row) → a ≡ b
-    → Tries first work room r (entered cap room rows a (findRow (a .entry .node) rows)) → Tries first work room r (entered cap room rows b (findRow (b .entry .node) rows))
+    → Tries first work room r (entered cap room rows a (findRow (a .entry .node) rows))
+    → Tries first work room r (entered cap room rows b (findRow (b .entry .node) rows))
 renamed {first} {work} {room} {r} rows e t = subst (λ (x : Row). Tries first work room r (entered cap room rows x (findRow (x .entry .node) rows))) e t
 
 row-requires : tie.Need-row-requires
@@ -29,12 +30,17 @@ arrival-requires c κs =
     let rows = rowsOf (s .args .work .now) (s .args .n) in
     let t = trellisIn (s .args .code) (s .args .bits) (s .args .seen .now) in
     let inside : s .args .i < length rows = omega (arith, length-rowsOf (s .args .work .now) (s .args .n), s .pre .1 .1 .0) in
-    let f : Fitting (s .args .code) (s .args .bits) (rowAt rows (s .args .i) .entry) = safe-fitting (s .pre .0) (s .pre .1 .1 .1 .0 .each (s .args .i) inside) in
+    let f : Fitting (s .args .code) (s .args .bits) (rowAt rows (s .args .i) .entry) =
+    safe-fitting (s .pre .0) (s .pre .1 .1 .1 .0 .each (s .args .i) inside) in
     let e : rowAt rows (s .args .i) ≡ rowOf (c .row .result) = sym (c .row .ensures .0) in (
       s .pre .0,
       (
         subst (λ (r : Row). Fitting (s .args .code) (s .args .bits) (r .entry)) e f,
-        (subst (λ (r : Row). s .args .input < allowed t (r .entry .node .level)) e (s .pre .1 .1 .1 .1), omega (arith, s .pre .1 .0 .most, s .pre .1 .0 .small, s .pre .1 .1 .0), c .row .ensures .1),
+        (
+          subst (λ (r : Row). s .args .input < allowed t (r .entry .node .level)) e (s .pre .1 .1 .1 .1),
+          omega (arith, s .pre .1 .0 .most, s .pre .1 .0 .lent .small, s .pre .1 .1 .0),
+          c .row .ensures .1,
+        ),
       ),
     )
 

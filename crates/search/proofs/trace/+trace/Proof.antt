@@ -45,8 +45,15 @@ trace-row-requires : (t : ℕ) → trace-lts.Need-row-requires (
 ) (trace-at t) trace.Post
 trace-row-requires t c κs =
     let s = c .before .before .before in
-    let rows : List Row = rowsOf (s .args .work .now) (s .args .n) in
-    (s .pre .1 .0, omega (arith, length-rowsOf (s .args .work .now) (s .args .n), traceable-here rows (s .args .level) (s .args .i) (omega arith) (s .pre .1 .1 .0)))
+    let rows : List Row = rowsOf (s .args .work .now) (s .args .n) in (
+      s .pre .1 .0,
+      omega (
+        arith,
+        length-rowsOf (s .args .work .now) (s .args .n),
+        traceable-here rows (s .args .level) (s .args .i)
+            (omega arith) (s .pre .1 .1 .0),
+      ),
+    )
 
 trace-sub-below : (t : ℕ) → trace-lts.Need-sub-below (
   row-reads.Asked,
@@ -80,7 +87,8 @@ put : (t : ℕ) (c : trace-lts.Joined2 (
   trace.Post,
 ) (trace-at t) trace.Post)
     → let s = c .before .before .before .before .before in
-    Put (rowsOf (s .args .work .now) (s .args .n)) (s .args .level) (s .args .i) (s .args .bits) (rowOf (c .before .row .result)) (s .args .message .now) (c .if2 .message)
+    Put (rowsOf (s .args .work .now) (s .args .n)) (s .args .level) (s .args .i) (s .args .bits) (rowOf (c .before .row .result))
+    (s .args .message .now) (c .if2 .message)
 put t c =
     let s = c .before .before .before .before .before in
     let rows : List Row = rowsOf (s .args .work .now) (s .args .n) in
