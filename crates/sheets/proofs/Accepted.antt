@@ -1,7 +1,6 @@
 -- What acceptance proves, in the contract's own words: a sheet that `check` accepts, whoever wrote it, has the only message of least
 -- metric, and the metric given is that least metric. That honest sheets are accepted is in HonestSheet. Assumes nothing.
 use mathlib.Core.Path.{_≡_, refl, sym, ap, _∙_, subst, subst₂}
-use mathlib.Core.Logic.{_⊎_, inl, inr}
 use mathlib.Core.List.{List, _++_}
 use mathlib.Core.Bool.{Bool, true, false}
 use Prim.Native.Nat.{ℕ, zero, suc, _<_}
@@ -27,11 +26,13 @@ use Rattle.sheets.proofs.Rows.{checking-code, checking-size, checking-f
 
 -- ---- the message is one of the messages
 
+-- for the bits: what holds of each f i holds of all
 every-series : {A : Type 0} (P : A → Type 0) (n : ℕ) (f : ℕ → A) → ((i : ℕ) → P (f i)) → Every P (series n f)
 unfolding series
 every-series P zero f h = λ a m. absurd (nil-out m)
 every-series P (suc n) f h = every-cons P (h 0) (every-series P n (λ i. f (suc i)) (λ i. h (suc i)))
 
+-- L bits are a message
 message-read : (c : Code) (l : ℕ) (symbols : List ℤ) (bytes : List ℕ) → sheetRead l bytes .message ∈ messages (trellisOf c l (view symbols))
 unfolding sheetRead messages
 message-read c l symbols bytes =
@@ -39,10 +40,6 @@ message-read c l symbols bytes =
     (words-in 2 (series l (bitAt bytes)) (every-series (λ b. b < 2) l (bitAt bytes) (λ i. omega arith)))
 
 -- ---- the number 0
-
-split : (b : Bool) → (b ≡ true) ⊎ (b ≡ false)
-split true = inl refl
-split false = inr refl
 
 module _ (c : Code) (l : ℕ) (symbols : List ℤ) (bytes message : List ℕ) where
   abbrev answer : Checking
@@ -62,16 +59,18 @@ module _ (c : Code) (l : ℕ) (symbols : List ℤ) (bytes message : List ℕ) wh
   other : (n m : ℕ) → answer ≡ handed (suc n) m message → answer .number ≡ 0 → ⊥
   other n m e z = let k : suc n ≡ 0 = ap (λ (x : Checking). x .number) (sym e) ∙ z in omega arith
 
+  -- so an answer of number 0 passed them
   pub accepted-passed : answer .number ≡ 0 → Passed
-  accepted-passed z = go (split (lawful c)) (split (sizesFit c l (length symbols) (length message))) (split (formed c l bytes)) (split (carried t (sheetRead l bytes)))
+  accepted-passed z =
+      go (lawful c) (sizesFit c l (length symbols) (length message)) (formed c l bytes) (carried t (sheetRead l bytes)) refl refl refl refl
     where
-      go : (lawful c ≡ true) ⊎ (lawful c ≡ false) → (sizesFit c l (length symbols) (length message) ≡ true) ⊎ (sizesFit c l (length symbols) (length message) ≡ false)
-          → (formed c l bytes ≡ true) ⊎ (formed c l bytes ≡ false) → (carried t (sheetRead l bytes) ≡ true) ⊎ (carried t (sheetRead l bytes) ≡ false) → Passed
-      go (inr h) s f q = absurd (other 0 0 (checking-code c l symbols bytes message h) z)
-      go (inl h) (inr s) f q = absurd (other 1 0 (checking-size c l symbols bytes message h s) z)
-      go (inl h) (inl s) (inr f) q = absurd (other 5 0 (checking-form c l symbols bytes message h s f) z)
-      go (inl h) (inl s) (inl f) (inr q) = absurd (other 6 0 (checking-claim c l symbols bytes message h s f q) z)
-      go (inl h) (inl s) (inl f) (inl q) = record { code = h; sizes = s; form = f; claim = q }
+      go : (code sizes form claim : Bool) → lawful c ≡ code → sizesFit c l (length symbols) (length message) ≡ sizes
+          → formed c l bytes ≡ form → carried t (sheetRead l bytes) ≡ claim → Passed
+      go false sizes form claim h s f q = absurd (other 0 0 (checking-code c l symbols bytes message h) z)
+      go true false form claim h s f q = absurd (other 1 0 (checking-size c l symbols bytes message h s) z)
+      go true true false claim h s f q = absurd (other 5 0 (checking-form c l symbols bytes message h s f) z)
+      go true true true false h s f q = absurd (other 6 0 (checking-claim c l symbols bytes message h s f q) z)
+      go true true true true h s f q = record { code = h; sizes = s; form = f; claim = q }
 
   -- Accepted: the L bytes in front of the buffer are the only message of least metric, and the metric given is that metric.
   pub check-sound : answer .number ≡ 0 → Alone t (answer .metric) (take l (answer .message))

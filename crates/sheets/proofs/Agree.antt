@@ -10,6 +10,7 @@ pub itself : (a : Bool) → Decides a (T a)
 itself a = record { out = (λ h. h); into = (λ h. h) }
 
 module _ {P : Type 0} where
+  -- for a return: the program's test is the definition's
   pub agree : {a b : Bool} → Decides a P → Decides b P → a ≡ b
   agree {a = true} {b = b} d e = sym (true-out b (e .into (d .out tt)))
   agree {a = false} {b = b} d e = sym (false-out b (λ h. d .into (e .out h)))
@@ -23,11 +24,14 @@ module _ {P : Type 0} where
 
 -- ---- two tests and the rest, for a loop that makes both in a turn
 
+-- the first fails
 pub first-fails : (a b rest : Bool) → a ≡ false → a && b && rest ≡ false
 first-fails a b rest e = rw e
 
+-- the second does
 pub second-fails : (a b rest : Bool) → a ≡ true → b ≡ false → a && b && rest ≡ false
 second-fails a b rest e f = rw (e, f)
 
+-- the rest decides
 pub both-pass : (a b rest : Bool) → a ≡ true → b ≡ true → a && b && rest ≡ rest
 both-pass a b rest e f = rw (e, f)

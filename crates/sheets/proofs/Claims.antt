@@ -41,7 +41,8 @@ use Rattle.sheets.proofs.Walks.{length-early}
 use Rattle.sheets.proofs.Early.{early-path, parts-early, every-part, next-input}
 
 -- a test of f 0, f 1, .., each by itself
-all-series : {A : Type 0} (p : A → Bool) (P : ℕ → Type 0) (n : ℕ) (f : ℕ → A) → ((j : ℕ) → j < n → Decides (p (f j)) (P j)) → Decides (all p (series n f)) ((j : ℕ) → j < n → P j)
+all-series : {A : Type 0} (p : A → Bool) (P : ℕ → Type 0) (n : ℕ) (f : ℕ → A) → ((j : ℕ) → j < n → Decides (p (f j)) (P j))
+    → Decides (all p (series n f)) ((j : ℕ) → j < n → P j)
 unfolding all series
 all-series p P zero f d = record { out = (λ h j k. absurd (omega arith)); into = (λ h. tt) }
 all-series p P (suc n) f d =
@@ -61,13 +62,13 @@ onward-test es s m small a = go (decLe (a .cost) m)
     go (no n) = rw (lt-ltb m (a .cost) (omega arith)) (record { out = (λ t h. absurd (n h)); into = (λ h. tt) })
 
 -- What the tests rest on: a code with a memory, rising entries, a message of bits and its path, and numbers below the absent one.
-pub record Claim (c : Code) (l : ℕ) (block : List Seen) (es : List Entry) (m : ℕ) (w states metrics : List ℕ) : Type 0 where
-  pub memory : 1 ≤ c .memory
-  pub ordered : Sorted lower es
-  pub bits : Bits w
-  pub size : length w ≡ l
-  pub walked : Walked (trellisOf c l block) w (l + c .memory) states metrics
-  pub small : m < absent
+record Claim (c : Code) (l : ℕ) (block : List Seen) (es : List Entry) (m : ℕ) (w states metrics : List ℕ) : Type 0 where
+  memory : 1 ≤ c .memory
+  ordered : Sorted lower es
+  bits : Bits w
+  size : length w ≡ l
+  walked : Walked (trellisOf c l block) w (l + c .memory) states metrics
+  small : m < absent
 
 module _ (c : Code) (l : ℕ) (block : List Seen) (es : List Entry) (m : ℕ) (w states metrics : List ℕ) (k : Claim c l block es m w states metrics) where
   abbrev t : Trellis
@@ -96,14 +97,16 @@ module _ (c : Code) (l : ℕ) (block : List Seen) (es : List Entry) (m : ℕ) (w
 
   -- D, at one branch
   abbrev Apart : Entry → ℕ → Type 0
-  Apart e b = onto t e b .node .state ≡ getD states (e .node .level + 1) 0 → ¬ (e .node .state ≡ getD states (e .node .level) 0) → getD metrics (e .node .level + 1) 0 < onto t e b .cost
+  Apart e b = onto t e b .node .state ≡ getD states (e .node .level + 1) 0 → ¬ (e .node .state ≡ getD states (e .node .level) 0)
+      → getD metrics (e .node .level + 1) 0 < onto t e b .cost
 
   -- B and D: both tests of every branch
   entries-test : Decides (all (allPassing t es m states metrics) es) (AllBranches t es (λ e b. Onward t m es e b × Apart e b))
   unfolding allPassing
   entries-test =
       branches-test t es (λ e b. both (onward-test es (k .ordered) m (k .small) (onto t e b))
-      (whenever (equal (onto t e b .node .state) (getD states (e .node .level + 1) 0)) (equal (e .node .state) (getD states (e .node .level) 0)) (less (getD metrics (e .node .level + 1) 0) (onto t e b .cost))))
+      (whenever (equal (onto t e b .node .state) (getD states (e .node .level + 1) 0)) (equal (e .node .state) (getD states (e .node .level) 0))
+      (less (getD metrics (e .node .level + 1) 0) (onto t e b .cost))))
 
   -- D, level by level
   clear-out : AllBranches t es Apart → Every (Clear t es) (parts own)
@@ -118,13 +121,15 @@ module _ (c : Code) (l : ℕ) (block : List Seen) (es : List Entry) (m : ℕ) (w
           let paid : getD metrics (e .node .level + 1) 0 ≡ metric t (early w (suc i)) = next-place metrics level ∙ k .walked .metrics-at (suc i) le in
           let state : onto t e b .node .state ≡ ends t (early w (suc i)) = ap (λ (x : Node). x .state) enters in
           let same-input : e .node .state ≡ ends t (early w i) → b ≡ getD w i 0 =
-          λ q. next-input (c .memory) b (getD w i 0) (e .node .state) (k .memory) (input-bit c l block (e .node .level) b u) (k .bits i) (state ∙ ap (λ (x : ℕ). t .next x (getD w i 0)) (sym q)) in
+          λ q. next-input (c .memory) b (getD w i 0) (e .node .state) (k .memory) (input-bit c l block (e .node .level) b u) (k .bits i)
+          (state ∙ ap (λ (x : ℕ). t .next x (getD w i 0)) (sym q)) in
           omega (arith, h e member b u (state ∙ sym after) (λ q. apart (q ∙ before, same-input (q ∙ before))))
 
       go : (j : ℕ) → j ≤ l + c .memory → Clear t es (early w j)
       go zero le = tt
       go (suc i) le = step i le
 
+  -- and back
   clear-in : Every (Clear t es) (parts own) → AllBranches t es Apart
   unfolding early
   clear-in h e member b u enters apart =
@@ -140,7 +145,7 @@ module _ (c : Code) (l : ℕ) (block : List Seen) (es : List Entry) (m : ℕ) (w
       )
 
   -- For the check: its tests are the conditions.
-  pub claim-tests : carries t m es (pathOf t w) ≡ tested t es m states metrics (l + c .memory)
+  claim-tests : carries t m es (pathOf t w) ≡ tested t es m states metrics (l + c .memory)
   unfolding tested early ends along
   claim-tests =
       ap (carries t m es) (sym (early-path t w (k .size)))
@@ -159,9 +164,11 @@ module _ (c : Code) (l : ℕ) (block : List Seen) (es : List Entry) (m : ℕ) (w
       whole = k .walked .metrics-at (l + c .memory) (omega arith)
 
 -- The same for a sheet of good form that was read off bytes.
-pub carried-tests : (c : Code) (l : ℕ) (block : List Seen) (bytes states metrics : List ℕ) → lawful c ≡ true → Bytes bytes → rising (sheetRead l bytes .entries) ≡ true
+pub carried-tests : (c : Code) (l : ℕ) (block : List Seen) (bytes states metrics : List ℕ) → lawful c ≡ true → Bytes bytes
+    → rising (sheetRead l bytes .entries) ≡ true
     → Walked (trellisOf c l block) (sheetRead l bytes .message) (l + c .memory) states metrics
-    → carried (trellisOf c l block) (sheetRead l bytes) ≡ tested (trellisOf c l block) (sheetRead l bytes .entries) (sheetRead l bytes .metric) states metrics (l + c .memory)
+    → carried (trellisOf c l block) (sheetRead l bytes)
+    ≡ tested (trellisOf c l block) (sheetRead l bytes .entries) (sheetRead l bytes .metric) states metrics (l + c .memory)
 unfolding carried sheetRead
 carried-tests c l block bytes states metrics h b r w =
     claim-tests c l block (sheetRead l bytes .entries) (sheetRead l bytes .metric) (sheetRead l bytes .message) states metrics (record {

@@ -35,15 +35,17 @@ listed-one (f ∷ es) s {e} (further m) =
     ∙ listed-one es (s .1) m
 
 -- a cost that is listed is an entry's
-pub listed-from : (es : List Entry) (x : Node) → listedCost es x < absent → record { cost = listedCost es x; node = x } ∈ es
+listed-from : (es : List Entry) (x : Node) → listedCost es x < absent → record { cost = listedCost es x; node = x } ∈ es
 unfolding listedCost
 listed-from [] x h = absurd (omega arith)
 listed-from (e ∷ es) x h = go (test (same (e .node) x)) (λ k. listed-from es x k)
   where
-    go : Dec (T (same (e .node) x)) → (listedCost es x < absent → record { cost = listedCost es x; node = x } ∈ es) → record { cost = listedCost (e ∷ es) x; node = x } ∈ (e ∷ es)
+    go : Dec (T (same (e .node) x)) → (listedCost es x < absent → record { cost = listedCost es x; node = x } ∈ es)
+        → record { cost = listedCost (e ∷ es) x; node = x } ∈ (e ∷ es)
     go (yes t) ih = let k = same-equality .sound (e .node) x t in here (entry-path (cost-here e es x k) (sym k))
     go (no n) ih =
-        let k : listedCost (e ∷ es) x ≡ listedCost es x = cost-further e es x (λ q. n (subst (λ (y : Node). T (same (e .node) y)) q (same-equality .complete (e .node)))) in
+        let k : listedCost (e ∷ es) x ≡ listedCost es x =
+        cost-further e es x (λ q. n (subst (λ (y : Node). T (same (e .node) y)) q (same-equality .complete (e .node)))) in
         member-cast (entry-path k refl) (further (ih (subst (λ (c : ℕ). c < absent) k h)))
 
 -- a node that no place holds is not listed

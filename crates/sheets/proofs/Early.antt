@@ -23,6 +23,7 @@ unfolding early
 early-first b w zero = refl
 early-first b w (suc k) = ap (λ (p : Path). getD w k 0 ∷ p) (early-first b w k)
 
+-- the message alone, turned round
 early-message : (w : List ℕ) → early w (length w) ≡ reverse w
 unfolding early
 early-message [] = refl
@@ -41,6 +42,7 @@ early-path t w h = ap (λ (k : ℕ). early w (k + t .tail)) (sym h) ∙ early-ta
 
 -- ---- its parts
 
+-- each shorter path is one
 pub parts-early : (w : List ℕ) (k j : ℕ) → j ≤ k → early w j ∈ parts (early w k)
 unfolding early
 parts-early w zero zero h = here refl

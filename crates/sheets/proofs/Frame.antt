@@ -9,7 +9,8 @@ use native.Mathlib.Omega.{arith}
 use lib.ListN.{length, getD, drop, drop-of-length-le}
 use Rattle.lists.proofs.Decides.{Decides, said, both, equal}
 use Rattle.trellis.specs.Verdict.{Entry}
-use Rattle.sheets.specs.Bytes.{series, bytesOf, kind, messageSize, octet, messageBytes, entryBytes, following, sheetBytes, numberAt, countPlace, messagePlace, entriesPlace, bitAt, entryAt, sheetRead}
+use Rattle.sheets.specs.Bytes.{series, bytesOf, kind, messageSize, octet, messageBytes, entryBytes, following, sheetBytes}
+use Rattle.sheets.specs.Bytes.{numberAt, countPlace, messagePlace, entriesPlace, bitAt, entryAt, sheetRead}
 use Rattle.sheets.specs.Checking.{alike, framed}
 use Rattle.sheets.specs.Steps.{sheetSize}
 use Rattle.sheets.proofs.Series.{length-series, series-same, series-stands}
@@ -19,6 +20,7 @@ use Rattle.sheets.proofs.Written.{length-following, length-sheetBytes, 
 
 -- ---- the same bytes
 
+-- the test of bytes decides their equality
 pub alike-test : (xs ys : List ℕ) → Decides (alike xs ys) (xs ≡ ys)
 unfolding alike
 alike-test [] [] = record { out = (λ h. refl); into = (λ e. tt) }
@@ -40,7 +42,8 @@ pub record Framed (l : ℕ) (bytes : List ℕ) : Type 0 where
   pub spare : getD bytes (messagePlace + (messageSize l - 1)) 0 % 2 ^ (8 * messageSize l - l) ≡ 0
 
 -- a number that was read, written again, is what stands there
-stands : (bytes : List ℕ) → Bytes bytes → (width at end : ℕ) → at + width ≡ end → end ≤ length bytes → drop at bytes ≡ bytesOf width (numberAt width at bytes) ++ drop end bytes
+stands : (bytes : List ℕ) → Bytes bytes → (width at end : ℕ) → at + width ≡ end → end ≤ length bytes
+    → drop at bytes ≡ bytesOf width (numberAt width at bytes) ++ drop end bytes
 stands bytes b width at end e h = number-stands bytes b width at (omega arith) ∙ ap (λ (k : ℕ). bytesOf width (numberAt width at bytes) ++ drop k bytes) e
 
 -- so is an entry
@@ -95,23 +98,30 @@ module _ (l : ℕ) (bytes : List ℕ) (b : Bytes bytes) (some : 1 ≤ l) (short 
 
   -- the unused bits are 0 exactly if the byte is that of its bits
   last-read : octet (series l (bitAt bytes)) last + getD bytes (messagePlace + last) 0 % 2 ^ (8 * messageSize l - l) ≡ getD bytes (messagePlace + last) 0
-  last-read = subst (λ (k : ℕ). octet (series l (bitAt bytes)) last + getD bytes (messagePlace + last) 0 % 2 ^ k ≡ getD bytes (messagePlace + last) 0) unused (octet-read bytes b l last)
+  last-read =
+      subst (λ (k : ℕ). octet (series l (bitAt bytes)) last + getD bytes (messagePlace + last) 0 % 2 ^ k ≡ getD bytes (messagePlace + last) 0) unused
+      (octet-read bytes b l last)
 
+  -- the byte that is written there
   last-written : getD (sheetBytes l (sheetRead l bytes)) (messagePlace + last) 0 ≡ octet (series l (bitAt bytes)) last
   unfolding sheetRead
   last-written = message-byte l (sheetRead l bytes) last (omega arith)
 
+  -- what is written back has the frame
   frame-out : sheetBytes l (sheetRead l bytes) ≡ bytes → Framed l bytes
   frame-out e = record {
     size = size;
     follow = ap (λ (x : List ℕ). numberAt 4 0 x + 4) (sym e) ∙ follow-back ∙ sym size;
     kind = ap (numberAt 2 4) (sym e) ∙ kind-back;
     span = ap (numberAt 2 6) (sym e) ∙ span-back;
-    spare = (let k : getD bytes (messagePlace + last) 0 ≡ octet (series l (bitAt bytes)) last = ap (λ (x : List ℕ). getD x (messagePlace + last) 0) (sym e) ∙ last-written in omega (arith, last-read));
+    spare = omega (arith, last-read, as-written);
   }
     where
       size : length bytes ≡ sheetSize l (numberAt 2 countPlace bytes)
       size = ap length (sym e) ∙ length-sheetBytes l (sheetRead l bytes) ∙ ap (sheetSize l) (counted l bytes)
+
+      as-written : getD bytes (messagePlace + last) 0 ≡ octet (series l (bitAt bytes)) last
+      as-written = ap (λ (x : List ℕ). getD x (messagePlace + last) 0) (sym e) ∙ last-written
 
   -- every byte of the message is that of its bits
   message-stands : Framed l bytes → drop messagePlace bytes ≡ messageBytes l (series l (bitAt bytes)) ++ drop (entriesPlace l) bytes
@@ -123,7 +133,8 @@ module _ (l : ℕ) (bytes : List ℕ) (b : Bytes bytes) (some : 1 ≤ l) (short 
           rw e (omega (arith, last-read, f .spare))
       at j h (no n) =
           let full : 8 - used l j ≡ 0 = omega arith in
-          let z : getD bytes (messagePlace + j) 0 % 2 ^ (8 - used l j) ≡ 0 = ap (λ (k : ℕ). getD bytes (messagePlace + j) 0 % 2 ^ k) full ∙ mod-one (getD bytes (messagePlace + j) 0) in
+          let z : getD bytes (messagePlace + j) 0 % 2 ^ (8 - used l j) ≡ 0 =
+          ap (λ (k : ℕ). getD bytes (messagePlace + j) 0 % 2 ^ k) full ∙ mod-one (getD bytes (messagePlace + j) 0) in
           omega (arith, octet-read bytes b l j)
 
   -- and so are the entries, to the end
@@ -132,9 +143,11 @@ module _ (l : ℕ) (bytes : List ℕ) (b : Bytes bytes) (some : 1 ≤ l) (short 
   listed-stand f =
       let n : ℕ = numberAt 2 countPlace bytes in
       entries-stand bytes b n (entriesPlace l) (omega (arith, f .size))
-      ∙ ap (λ (t : List ℕ). flatMap entryBytes (sheetRead l bytes .entries) ++ t) (drop-of-length-le bytes {i = entriesPlace l + 8 * n} (omega (arith, f .size)))
+      ∙ ap (λ (t : List ℕ). flatMap entryBytes (sheetRead l bytes .entries) ++ t)
+      (drop-of-length-le bytes {i = entriesPlace l + 8 * n} (omega (arith, f .size)))
       ∙ append-nil (flatMap entryBytes (sheetRead l bytes .entries))
 
+  -- so is all that follows the length
   following-stands : Framed l bytes → drop 4 bytes ≡ following l (sheetRead l bytes)
   unfolding following bytesOf sheetRead
   following-stands f =
@@ -148,10 +161,12 @@ module _ (l : ℕ) (bytes : List ℕ) (b : Bytes bytes) (some : 1 ≤ l) (short 
       ∙ ap₂ (λ (n : ℕ) (t : List ℕ). bytesOf 2 n ++ t) (sym (counted l bytes))
       (message-stands f ∙ ap (λ (t : List ℕ). messageBytes l (series l (bitAt bytes)) ++ t) (listed-stand f)))))
 
+  -- what has the frame is written back
   frame-in : Framed l bytes → sheetBytes l (sheetRead l bytes) ≡ bytes
   unfolding sheetBytes
   frame-in f =
-      let n : numberAt 4 0 bytes ≡ length (following l (sheetRead l bytes)) = omega (arith, f .follow, f .size, length-following l (sheetRead l bytes), counted l bytes) in
+      let n : numberAt 4 0 bytes ≡ length (following l (sheetRead l bytes)) =
+      omega (arith, f .follow, f .size, length-following l (sheetRead l bytes), counted l bytes) in
       sym (stands bytes b 4 0 4 refl (omega (arith, f .size)) ∙ ap₂ (λ (k : ℕ) (t : List ℕ). bytesOf 4 k ++ t) n (following-stands f))
 
   -- For the check of the form.

@@ -34,7 +34,8 @@ use Rattle.sheets.specs.Checking.{alike, framed, mostEntries, rising, in
 use Rattle.sheets.proofs.Octets.{Bits}
 use Rattle.sheets.proofs.Written.{EntryFits, Fits, read-written}
 use Rattle.sheets.proofs.Frame.{alike-test}
-use Rattle.sheets.proofs.Listing.{getD-in, rising-test}
+use Rattle.trellis.proofs.Places.{place-in}
+use Rattle.sheets.proofs.Listing.{rising-test}
 use Rattle.sheets.proofs.Rows.{Formed, formed-in, sizes-test, checking-accepted}
 
 -- What is asked: a block of its own code, a buffer with room, one least message, and not too many entries.
@@ -62,7 +63,7 @@ module _ (c : Code) (l : ℕ) (symbols : List ℤ) (w message : List ℕ) (h : A
   bits i = go (decLt i (length w))
     where
       go : Dec (i < length w) → getD w i 0 ≤ 1
-      go (yes k) = let b : getD w i 0 < 2 = word .fits (getD w i 0) (getD-in w i 0 k) in omega arith
+      go (yes k) = let b : getD w i 0 < 2 = word .fits (getD w i 0) (place-in 0 w i k) in omega arith
       go (no n) = let e : getD w i 0 ≡ 0 = List·getD-eq-default w 0 {n = i} (omega arith) in omega arith
 
   -- where an entry's node lies
@@ -118,9 +119,14 @@ module _ (c : Code) (l : ℕ) (symbols : List ℤ) (w message : List ℕ) (h : A
   unfolding framed
   good = record {
     frame = true-out (alike (sheetBytes l (sheetRead l bytes)) bytes) (alike-test (sheetBytes l (sheetRead l bytes)) bytes .into (ap (sheetBytes l) back));
-    count = ap (λ (es : List Entry). from 1 mostEntries (length es)) listed ∙ rw (le-leb 1 (length (honest t (leastMetric t))) (member-length (honest-terminal law)), le-leb (length (honest t (leastMetric t))) mostEntries (h .few));
+    count = ap (λ (es : List Entry). from 1 mostEntries (length es)) listed
+        ∙ rw (
+          le-leb 1 (length (honest t (leastMetric t))) (member-length (honest-terminal law)),
+          le-leb (length (honest t (leastMetric t))) mostEntries (h .few),
+        );
     ordered = ap rising listed ∙ true-out (rising (honest t (leastMetric t))) (rising-test (honest t (leastMetric t)) .into (honest-sorted t (leastMetric t)));
-    inside = ap (all (inTrellis c l)) listed ∙ true-out (all (inTrellis c l) (honest t (leastMetric t))) (all-in (inTrellis c l) (honest t (leastMetric t)) (λ e m. node e (inside e m)));
+    inside = ap (all (inTrellis c l)) listed
+        ∙ true-out (all (inTrellis c l) (honest t (leastMetric t))) (all-in (inTrellis c l) (honest t (leastMetric t)) (λ e m. node e (inside e m)));
   }
     where
       node : (e : Entry) → Inside e → T (inTrellis c l e)
@@ -137,4 +143,5 @@ module _ (c : Code) (l : ℕ) (symbols : List ℤ) (w message : List ℕ) (h : A
       ∙ ap (λ (s : Sheet). handed 0 (s .metric) (s .message ++ drop l message)) back
     where
       sizes : sizesFit c l (length symbols) (length message) ≡ true
-      sizes = true-out _ (sizes-test c l (length symbols) (length message) .into (record { some = h .some; span = h .tested .span; full = h .tested .size; fits = h .room }))
+      sizes = true-out _ (sizes-test c l (length symbols) (length message) .into
+          (record { some = h .some; span = h .tested .span; full = h .tested .size; fits = h .room }))

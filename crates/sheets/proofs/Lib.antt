@@ -11,6 +11,7 @@ pub mod Inputs
 pub mod Early
 pub mod Claims
 pub mod Rows
+pub mod Pinned
 pub mod Accepted
 pub mod HonestSheet
 pub mod Putting

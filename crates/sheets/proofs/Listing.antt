@@ -11,7 +11,7 @@ use lib.Dec.{T}
 use lib.ListN.{length, getD, take, drop, length-drop}
 use lib.Seq.{drop-cons, take-all}
 use Rattle.lists.proofs.Tests.{true-in}
-use Rattle.lists.proofs.Membership.{_∈_, here, further, nil-out, every-cons}
+use Rattle.lists.proofs.Membership.{here, nil-out, every-cons}
 use Rattle.lists.proofs.Lexicographic.{compared}
 use Rattle.lists.proofs.Sorted.{Sorted}
 use Rattle.lists.proofs.Decides.{Decides, said, both}
@@ -19,6 +19,8 @@ use Rattle.trellis.specs.Trellis.{Node}
 use Rattle.trellis.specs.Verdict.{Entry, entry, earlier}
 use Rattle.trellis.proofs.Order.{Earlier, earlier-in, earlier-out, earlier-order}
 use Rattle.trellis.proofs.Honest.{lower}
+use Rattle.trellis.proofs.Places.{place-in}
+use Rattle.trellis.proofs.Listing.{noEntry}
 use Rattle.sheets.specs.Bytes.{series, numberAt, countPlace, entriesPlace, entryAt, sheetRead}
 use Rattle.sheets.specs.Checking.{rising}
 use Rattle.sheets.specs.Steps.{entriesIn, keyOf}
@@ -26,25 +28,17 @@ use Rattle.sheets.proofs.Series.{length-series, getD-series, series-sam
 use Rattle.sheets.proofs.Agree.{itself}
 use Rattle.sheets.proofs.Numbers.{Bytes, numberAt-drop, numberAt-below}
 
--- what stands behind the last entry; nothing reads it
-abbrev pub none : Entry
-none = entry 0 0 0
-
 -- ---- places
 
--- what stands at a place is a member
-pub getD-in : {A : Type 0} (l : List A) (i : ℕ) (d : A) → i < length l → getD l i d ∈ l
-getD-in [] i d h = absurd (omega arith)
-getD-in (x ∷ l) zero d h = here refl
-getD-in (x ∷ l) (suc i) d h = further (getD-in l i d (le-of-suc-le-suc h))
-
+-- eight bytes an entry
 pub length-entriesIn : (bytes : List ℕ) → length (entriesIn bytes) ≡ length bytes / 8
 unfolding entriesIn
 length-entriesIn bytes = length-series (length bytes / 8) _
 
-pub entriesIn-at : (bytes : List ℕ) (i : ℕ) → i < length bytes / 8 → getD (entriesIn bytes) i none ≡ entryAt bytes (8 * i)
+-- each at its place
+pub entriesIn-at : (bytes : List ℕ) (i : ℕ) → i < length bytes / 8 → getD (entriesIn bytes) i noEntry ≡ entryAt bytes (8 * i)
 unfolding entriesIn
-entriesIn-at bytes i h = getD-series (length bytes / 8) (λ i. entryAt bytes (8 * i)) i none h
+entriesIn-at bytes i h = getD-series (length bytes / 8) (λ i. entryAt bytes (8 * i)) i noEntry h
 
 -- for the keys: a state has two bytes
 pub state-small : (bytes : List ℕ) → Bytes bytes → (at : ℕ) → entryAt bytes at .node .state < 65536
@@ -53,7 +47,7 @@ state-small bytes b at = numberAt-below bytes b 2 (at + 2)
 -- ---- order
 
 -- the order of the keys is the order of the nodes
-pub earlier-key : (x y : Node) → x .state < 65536 → y .state < 65536 → Decides (earlier x y) (keyOf x < keyOf y)
+earlier-key : (x y : Node) → x .state < 65536 → y .state < 65536 → Decides (earlier x y) (keyOf x < keyOf y)
 earlier-key x y h k = record { out = (λ t. up (earlier-out x y t)); into = (λ t. earlier-in x y (down t)) }
   where
     up : Earlier x y → keyOf x < keyOf y
@@ -79,10 +73,10 @@ rising-test (e ∷ f ∷ es) =
     (λ h. (h .0 f (here refl), h .1))
 
 -- for a search by halving: places in order
-pub sorted-places : (es : List Entry) → Sorted lower es → (i j : ℕ) (d : Entry) → i < j → j < length es → T (lower (getD es i d) (getD es j d))
+sorted-places : (es : List Entry) → Sorted lower es → (i j : ℕ) (d : Entry) → i < j → j < length es → T (lower (getD es i d) (getD es j d))
 sorted-places [] s i j d h k = absurd (omega arith)
 sorted-places (e ∷ es) s i zero d h k = absurd (omega arith)
-sorted-places (e ∷ es) s zero (suc j) d h k = s .0 (getD es j d) (getD-in es j d (le-of-suc-le-suc k))
+sorted-places (e ∷ es) s zero (suc j) d h k = s .0 (getD es j d) (place-in d es j (le-of-suc-le-suc k))
 sorted-places (e ∷ es) s (suc i) (suc j) d h k = sorted-places es (s .1) i j d (le-of-suc-le-suc h) (le-of-suc-le-suc k)
 
 -- so keys rise with the places
@@ -92,14 +86,15 @@ keys-rise bytes b r i j h k =
     let es : List Entry = entriesIn bytes in
     earlier-key (entryAt bytes (8 * i) .node) (entryAt bytes (8 * j) .node) (state-small bytes b (8 * i)) (state-small bytes b (8 * j)) .out
     (subst₂ (λ (x y : Entry). T (lower x y)) (entriesIn-at bytes i (omega arith)) (entriesIn-at bytes j k)
-    (sorted-places es (rising-test es .out (true-in (rising es) r)) i j none h (omega (arith, length-entriesIn bytes))))
+    (sorted-places es (rising-test es .out (true-in (rising es) r)) i j noEntry h (omega (arith, length-entriesIn bytes))))
 
 -- and two neighbours are in order exactly if their keys are
 pub neighbours-test : (bytes : List ℕ) → Bytes bytes → (i : ℕ) → i + 1 < length bytes / 8
-    → Decides (lower (getD (entriesIn bytes) i none) (getD (entriesIn bytes) (suc i) none)) (keyOf (entryAt bytes (8 * i) .node) < keyOf (entryAt bytes (8 * (i + 1)) .node))
+    → Decides (lower (getD (entriesIn bytes) i noEntry) (getD (entriesIn bytes) (suc i) noEntry))
+    (keyOf (entryAt bytes (8 * i) .node) < keyOf (entryAt bytes (8 * (i + 1)) .node))
 neighbours-test bytes b i h =
     subst₂ (λ (x y : Entry). Decides (lower x y) (keyOf (entryAt bytes (8 * i) .node) < keyOf (entryAt bytes (8 * (i + 1)) .node)))
-    (sym (entriesIn-at bytes i (omega arith))) (sym (entriesIn-at bytes (i + 1) h) ∙ ap (λ (k : ℕ). getD (entriesIn bytes) k none) (add-one i))
+    (sym (entriesIn-at bytes i (omega arith))) (sym (entriesIn-at bytes (i + 1) h) ∙ ap (λ (k : ℕ). getD (entriesIn bytes) k noEntry) (add-one i))
     (earlier-key (entryAt bytes (8 * i) .node) (entryAt bytes (8 * (i + 1)) .node) (state-small bytes b (8 * i)) (state-small bytes b (8 * (i + 1))))
 
 -- for the loop that tests the order, by the work that is left
@@ -129,7 +124,8 @@ module _ (es : List Entry) (d : Entry) (i : ℕ) where
 -- ---- the entries of a sheet
 
 -- for the part of a sheet that holds its entries
-pub entriesIn-sheet : (l : ℕ) (bytes : List ℕ) → length bytes ≡ entriesPlace l + 8 * numberAt 2 countPlace bytes → entriesIn (drop (entriesPlace l) bytes) ≡ sheetRead l bytes .entries
+pub entriesIn-sheet : (l : ℕ) (bytes : List ℕ) → length bytes ≡ entriesPlace l + 8 * numberAt 2 countPlace bytes
+    → entriesIn (drop (entriesPlace l) bytes) ≡ sheetRead l bytes .entries
 unfolding entriesIn sheetRead
 entriesIn-sheet l bytes h =
     let n : length (drop (entriesPlace l) bytes) / 8 ≡ numberAt 2 countPlace bytes = omega (arith, length-drop (entriesPlace l) bytes) in

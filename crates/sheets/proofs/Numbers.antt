@@ -1,4 +1,4 @@
--- Numbers as bytes and back: what was written is read, and what was read, written again, is what stood there. Assumes nothing.
+-- Numbers read off bytes: from a place on, written again, below a power of 256, and by halves. Assumes nothing.
 use mathlib.Core.Path.{_≡_, refl, sym, ap, ap₂, _∙_}
 use mathlib.Core.List.{List, [], _∷_, _++_}
 use Prim.Native.Nat.{ℕ, zero, suc, _+_, _*_, _/_, _%_, _^_, _≤_, _<_}
@@ -13,35 +13,13 @@ use Rattle.sheets.specs.Bytes.{bytesOf, numberAt}
 abbrev pub Bytes : List ℕ → Type 0
 Bytes l = (i : ℕ) → getD l i 0 < 256
 
-pub length-bytesOf : (width n : ℕ) → length (bytesOf width n) ≡ width
-unfolding bytesOf
-length-bytesOf zero n = refl
-length-bytesOf (suc width) n = ap suc (length-bytesOf width (n / 256))
-
--- ---- what was written is read
-
--- a number is read off what stands from its place on
+-- for a part of the bytes: a number is read off what stands from its place on
 pub numberAt-drop : (width at k : ℕ) (l : List ℕ) → numberAt width (k + at) l ≡ numberAt width at (drop k l)
 unfolding numberAt
 numberAt-drop zero at k l = refl
 numberAt-drop (suc width) at k l =
     let e : suc (k + at) ≡ k + suc at = omega arith in
     ap₂ (λ (x y : ℕ). x + 256 * y) (sym (getD-drop k l at 0)) (ap (λ (j : ℕ). numberAt width j l) e ∙ numberAt-drop width (suc at) k l)
-
-numberAt-cons : (width at b : ℕ) (l : List ℕ) → numberAt width (suc at) (b ∷ l) ≡ numberAt width at l
-unfolding numberAt
-numberAt-cons zero at b l = refl
-numberAt-cons (suc width) at b l = ap (λ (x : ℕ). getD l at 0 + 256 * x) (numberAt-cons width (suc at) b l)
-
--- for each number of a sheet: it is read back if it fits its width
-pub numberAt-bytesOf : (width n : ℕ) (rest : List ℕ) → n < 256 ^ width → numberAt width 0 (bytesOf width n ++ rest) ≡ n
-unfolding numberAt bytesOf
-numberAt-bytesOf zero n rest h = omega arith
-numberAt-bytesOf (suc width) n rest h =
-    let q : n / 256 < 256 ^ width = omega (arith, pow-suc 256 width) in
-    omega (arith, numberAt-cons width 0 (n % 256) (bytesOf width (n / 256) ++ rest), numberAt-bytesOf width (n / 256) rest q)
-
--- ---- what was read stands there
 
 -- for the form: a number's bytes are those of the number that they say
 pub number-stands : (l : List ℕ) → Bytes l → (width at : ℕ) → at + width ≤ length l → drop at l ≡ bytesOf width (numberAt width at l) ++ drop (at + width) l
@@ -63,10 +41,12 @@ numberAt-below l b (suc width) at = omega (arith, b at, numberAt-below l b width
 
 -- ---- four bytes are twice two
 
+-- to read
 pub number-halves : (at : ℕ) (l : List ℕ) → numberAt 4 at l ≡ numberAt 2 at l + 65536 * numberAt 2 (at + 2) l
 unfolding numberAt
 number-halves at l = let e : at + 2 ≡ suc (suc at) = omega arith in rw e (omega arith)
 
+-- to put
 pub bytes-halves : (n : ℕ) → bytesOf 4 n ≡ bytesOf 2 (n % 65536) ++ bytesOf 2 (n / 65536)
 unfolding bytesOf
 bytes-halves n =

@@ -41,21 +41,18 @@ eight-bit f b (suc (suc (suc (suc (suc (suc zero)))))) h = omega (arith, b 0, b 
 eight-bit f b (suc (suc (suc (suc (suc (suc (suc zero))))))) h = omega (arith, b 0, b 1, b 2, b 3, b 4, b 5, b 6, b 7)
 eight-bit f b (suc (suc (suc (suc (suc (suc (suc (suc r)))))))) h = absurd (omega arith)
 
+-- for both: a byte is the eight bits from its place on
 octet-eight : (bits : List ℕ) (j : ℕ) → octet bits j ≡ eight (λ r. getD bits (8 * j + r) 0)
 unfolding octet
 octet-eight bits j = let e : 8 * j ≡ 8 * j + 0 = omega arith in ap (λ (k : ℕ). eight (λ r. cond (ltb r 1) (getD bits k 0) (getD bits (8 * j + r) 0))) e
 
+-- for a message that was written: bit i is read off its byte
 pub octet-bit : (bits : List ℕ) → Bits bits → (i : ℕ) → octet bits (i / 8) / 2 ^ (7 - i % 8) % 2 ≡ getD bits i 0
 octet-bit bits b i =
     let e : 8 * (i / 8) + i % 8 ≡ i = omega arith in
     ap (λ (x : ℕ). x / 2 ^ (7 - i % 8) % 2) (octet-eight bits (i / 8))
     ∙ eight-bit (λ r. getD bits (8 * (i / 8) + r) 0) (λ r. b (8 * (i / 8) + r)) (i % 8) (omega arith)
     ∙ ap (λ (k : ℕ). getD bits k 0) e
-
--- a written byte is a byte
-pub octet-below : (bits : List ℕ) → Bits bits → (j : ℕ) → octet bits j < 256
-unfolding octet
-octet-below bits b j = omega (arith, b (8 * j), b (8 * j + 1), b (8 * j + 2), b (8 * j + 3), b (8 * j + 4), b (8 * j + 5), b (8 * j + 6), b (8 * j + 7))
 
 -- ---- what was read stands there
 

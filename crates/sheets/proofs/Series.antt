@@ -10,6 +10,7 @@ use lib.Seq.{drop-cons}
 use Rattle.sheets.specs.Bytes.{series}
 
 module _ {A : Type 0} where
+  -- as long as was said
   pub length-series : (n : ℕ) (f : ℕ → A) → length (series n f) ≡ n
   unfolding series
   length-series zero f = refl
@@ -29,7 +30,8 @@ module _ {A : Type 0} where
   pub series-same : (n : ℕ) (f g : ℕ → A) → ((i : ℕ) → i < n → f i ≡ g i) → series n f ≡ series n g
   unfolding series
   series-same zero f g h = refl
-  series-same (suc n) f g h = ap₂ (λ (x : A) (l : List A). x ∷ l) (h 0 (omega arith)) (series-same n (λ i. f (suc i)) (λ i. g (suc i)) (λ i k. h (suc i) (omega arith)))
+  series-same (suc n) f g h = ap₂ (λ (x : A) (l : List A). x ∷ l) (h 0 (omega arith))
+      (series-same n (λ i. f (suc i)) (λ i. g (suc i)) (λ i k. h (suc i) (omega arith)))
 
   -- to find it in a longer list: every place holds what it should
   pub series-stands : (l : List A) (n : ℕ) (f : ℕ → A) (at : ℕ) (d : A) → at + n ≤ length l → ((i : ℕ) → i < n → getD l (at + i) d ≡ f i)
@@ -39,6 +41,7 @@ module _ {A : Type 0} where
   series-stands l (suc n) f at d fits h =
       let here : getD l at d ≡ f 0 = let e : at ≡ at + 0 = omega arith in ap (λ (k : ℕ). getD l k d) e ∙ h 0 (omega arith) in
       let rest : drop (suc at) l ≡ series n (λ i. f (suc i)) ++ drop (suc at + n) l =
-      series-stands l n (λ i. f (suc i)) (suc at) d (omega arith) (λ i k. (let e : suc at + i ≡ at + suc i = omega arith in ap (λ (j : ℕ). getD l j d) e) ∙ h (suc i) (omega arith)) in
+      series-stands l n (λ i. f (suc i)) (suc at) d (omega arith)
+      (λ i k. (let e : suc at + i ≡ at + suc i = omega arith in ap (λ (j : ℕ). getD l j d) e) ∙ h (suc i) (omega arith)) in
       let e : suc at + n ≡ at + suc n = omega arith in
       drop-cons l at d (omega arith) ∙ ap₂ (λ (x : A) (t : List A). x ∷ t) here (rest ∙ ap (λ (k : ℕ). series n (λ i. f (suc i)) ++ drop k l) e)

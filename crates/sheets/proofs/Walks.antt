@@ -17,7 +17,7 @@ length-early message zero = refl
 length-early message (suc k) = ap suc (length-early message k)
 
 -- one branch more
-pub early-next : (message : List ℕ) (k : ℕ) → early message (k + 1) ≡ getD message k 0 ∷ early message k
+early-next : (message : List ℕ) (k : ℕ) → early message (k + 1) ≡ getD message k 0 ∷ early message k
 unfolding early
 early-next message k = rw add-one
 
@@ -41,7 +41,8 @@ written P l k x room h e j fits = go (ℕ-discrete j (k + 1))
 module _ (t : Trellis) (message : List ℕ) (most bound : ℕ) (states metrics : List ℕ) (state spent level : ℕ)
     (w : Walking t message most bound states metrics state spent level) where
   -- for the loop's next turn: one branch is walked
-  pub walking-next : (b paid to : ℕ) → b ≡ getD message level 0 → paid ≡ t .price level state b → to ≡ t .next state b → paid ≤ most → to < bound → to < 65536 → spent + paid < absent
+  pub walking-next : (b paid to : ℕ) → b ≡ getD message level 0 → paid ≡ t .price level state b → to ≡ t .next state b → paid ≤ most → to < bound
+      → to < 65536 → spent + paid < absent
       → level + 1 < length states → level + 1 < length metrics
       → Walking t message most bound (set states (level + 1) to) (set metrics (level + 1) (spent + paid)) to (spent + paid) (level + 1)
   unfolding ends along

@@ -10,7 +10,8 @@ use Rattle.lists.proofs.Membership.{here, further, Every}
 use Rattle.trellis.specs.Verdict.{Entry}
 use Rattle.trellis.proofs.Paths.{node-path}
 use Rattle.trellis.proofs.Order.{entry-path}
-use Rattle.sheets.specs.Bytes.{Sheet, series, bytesOf, messageSize, octet, messageBytes, entryBytes, following, sheetBytes, numberAt, metricPlace, countPlace, messagePlace, entriesPlace, bitAt, entryAt, sheetRead}
+use Rattle.sheets.specs.Bytes.{Sheet, series, bytesOf, messageSize, octet, messageBytes, entryBytes, following, sheetBytes}
+use Rattle.sheets.specs.Bytes.{numberAt, metricPlace, countPlace, messagePlace, entriesPlace, bitAt, entryAt, sheetRead}
 use Rattle.sheets.specs.Steps.{sheetSize}
 use Rattle.sheets.proofs.Series.{length-series, getD-series, series-same}
 use Rattle.sheets.proofs.Numbers.{numberAt-drop}
@@ -18,11 +19,13 @@ use Rattle.sheets.proofs.Octets.{Bits, octet-bit}
 
 -- ---- how many they are
 
-pub length-entries : (es : List Entry) → length (flatMap entryBytes es) ≡ 8 * length es
+-- eight an entry
+length-entries : (es : List Entry) → length (flatMap entryBytes es) ≡ 8 * length es
 unfolding flatMap bytesOf
 length-entries [] = omega arith
 length-entries (e ∷ es) = omega (arith, length-entries es)
 
+-- all but the length field
 pub length-following : (l : ℕ) (s : Sheet) → length (following l s) + 4 ≡ sheetSize l (length (s .entries))
 unfolding following bytesOf
 length-following l s =
@@ -33,12 +36,14 @@ length-following l s =
       length-entries (s .entries),
     )
 
+-- for a buffer's room: the size of a sheet
 pub length-sheetBytes : (l : ℕ) (s : Sheet) → length (sheetBytes l s) ≡ sheetSize l (length (s .entries))
 unfolding sheetBytes bytesOf
 length-sheetBytes l s = omega (arith, length-following l s)
 
 -- ---- fields that fit
 
+-- level and state in two bytes, the cost in four
 pub record EntryFits (e : Entry) : Type 0 where
   pub level : e .node .level < 65536
   pub state : e .node .state < 65536
@@ -55,12 +60,14 @@ pub record Fits (l : ℕ) (s : Sheet) : Type 0 where
 
 -- ---- an entry
 
+-- for the entries: one is read back
 entry-back : (e : Entry) → EntryFits e → (rest bytes : List ℕ) (at : ℕ) → drop at bytes ≡ entryBytes e ++ rest → entryAt bytes at ≡ e
 unfolding numberAt bytesOf
 entry-back e f rest bytes at h = entry-path cost (node-path level state)
   where
     level : numberAt 2 at bytes ≡ e .node .level
-    level = let e : at ≡ at + 0 = omega arith in ap (λ (k : ℕ). numberAt 2 k bytes) e ∙ numberAt-drop 2 0 at bytes ∙ ap (numberAt 2 0) h ∙ omega (arith, f .level)
+    level = let e : at ≡ at + 0 = omega arith in ap (λ (k : ℕ). numberAt 2 k bytes) e ∙ numberAt-drop 2 0 at bytes ∙ ap (numberAt 2 0) h
+        ∙ omega (arith, f .level)
 
     state : numberAt 2 (at + 2) bytes ≡ e .node .state
     state = numberAt-drop 2 2 at bytes ∙ ap (numberAt 2 2) h ∙ omega (arith, f .state)
@@ -105,6 +112,7 @@ module _ (l : ℕ) (s : Sheet) where
       ∙ getD-series (messageSize l) (octet (s .message)) j 0 h
 
   module _ (f : Fits l s) where
+    -- field by field
     metric-back : numberAt 4 metricPlace (sheetBytes l s) ≡ s .metric
     unfolding sheetBytes following bytesOf numberAt
     metric-back = omega (arith, f .metric)
@@ -115,7 +123,8 @@ module _ (l : ℕ) (s : Sheet) where
 
     message-back : series l (bitAt (sheetBytes l s)) ≡ s .message
     message-back =
-        ext-getD 0 (series l (bitAt (sheetBytes l s))) (s .message) (length-series l (bitAt (sheetBytes l s)) ∙ sym (f .size)) (λ i h. at i (omega (arith, length-series l (bitAt (sheetBytes l s)))))
+        ext-getD 0 (series l (bitAt (sheetBytes l s))) (s .message) (length-series l (bitAt (sheetBytes l s)) ∙ sym (f .size))
+        (λ i h. at i (omega (arith, length-series l (bitAt (sheetBytes l s)))))
       where
         at : (i : ℕ) → i < l → getD (series l (bitAt (sheetBytes l s))) i 0 ≡ getD (s .message) i 0
         at i h =

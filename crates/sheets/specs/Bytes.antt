@@ -6,7 +6,7 @@ use Prim.Native.Nat.{ℕ, zero, suc, _+_, _-_, _*_, _/_, _%_, _^_}
 use lib.ListN.{length, getD}
 use Rattle.trellis.specs.Verdict.{Entry, entry}
 
--- What a sheet says beside L: the metric M, the message, the entries.
+-- What a sheet says beside L: 'metric M', 'The message', 'Entries'.
 pub record Sheet : Type 0 where
   pub metric : ℕ
   pub message : List ℕ
@@ -19,7 +19,7 @@ series (suc n) f = f 0 ∷ series n (λ i. f (suc i))
 
 -- ---- written
 
--- 'little-endian': a number in so many bytes, the lowest first
+-- 'little-endian': a number in so many bytes, the lowest byte first
 unfoldable pub bytesOf : ℕ → ℕ → List ℕ
 bytesOf zero n = []
 bytesOf (suc width) n = n % 256 ∷ bytesOf width (n / 256)
@@ -38,6 +38,7 @@ octet bits j =
     128 * getD bits (8 * j) 0 + 64 * getD bits (8 * j + 1) 0 + 32 * getD bits (8 * j + 2) 0 + 16 * getD bits (8 * j + 3) 0 +
     8 * getD bits (8 * j + 4) 0 + 4 * getD bits (8 * j + 5) 0 + 2 * getD bits (8 * j + 6) 0 + getD bits (8 * j + 7) 0
 
+-- 'The message in ceil(L/8) bytes', one after another
 abbrev pub messageBytes : ℕ → List ℕ → List ℕ
 messageBytes l bits = series (messageSize l) (octet bits)
 
@@ -45,7 +46,7 @@ messageBytes l bits = series (messageSize l) (octet bits)
 abbrev pub entryBytes : Entry → List ℕ
 entryBytes e = bytesOf 2 (e .node .level) ++ bytesOf 2 (e .node .state) ++ bytesOf 4 (e .cost)
 
--- '2 bytes: kind 257. 2: L. 4: metric M. 2: entry count', the message, the entries
+-- '2 bytes: kind 257. 2: L. 4: metric M. 2: entry count', then 'The message', then 'Entries'
 unfoldable pub following : ℕ → Sheet → List ℕ
 following l s =
     bytesOf 2 kind ++ bytesOf 2 l ++ bytesOf 4 (s .metric) ++ bytesOf 2 (length (s .entries)) ++
@@ -58,12 +59,12 @@ sheetBytes l s = bytesOf 4 (length (following l s)) ++ following l s
 
 -- ---- read
 
--- the number in so many bytes from a place on, the lowest first; a byte that is not there counts 0
+-- 'little-endian': the number in so many bytes from a place on, the lowest byte first; a byte that is not there counts 0
 unfoldable pub numberAt : ℕ → ℕ → List ℕ → ℕ
 numberAt zero at bytes = 0
 numberAt (suc width) at bytes = getD bytes at 0 + 256 * numberAt width (suc at) bytes
 
--- where the fields stand
+-- where the fields stand, by the bytes before them: '4 bytes: ..', '2 bytes: kind 257. 2: L. 4: metric M. 2: entry count'
 abbrev pub metricPlace : ℕ
 metricPlace = 8
 
@@ -76,15 +77,16 @@ messagePlace = 14
 abbrev pub entriesPlace : ℕ → ℕ
 entriesPlace l = messagePlace + messageSize l
 
--- bit i of the message
+-- bit i of the message, 'first bit highest'
 abbrev pub bitAt : List ℕ → ℕ → ℕ
 bitAt bytes i = getD bytes (messagePlace + i / 8) 0 / 2 ^ (7 - i % 8) % 2
 
--- the entry at a place
+-- the entry at a place: 'level (2), state (2), cost (4)'
 abbrev pub entryAt : List ℕ → ℕ → Entry
 entryAt bytes at = entry (numberAt 4 (at + 4) bytes) (numberAt 2 at bytes) (numberAt 2 (at + 2) bytes)
 
--- the sheet that bytes say, for messages of L bits: each field by its place, whatever the bytes are
+-- The sheet that bytes say, for messages of L bits: each field by its place, whatever the bytes are. Whether they have the form is
+-- asked in Checking.
 unfoldable pub sheetRead : ℕ → List ℕ → Sheet
 sheetRead l bytes = record {
   metric = numberAt 4 metricPlace bytes;

@@ -21,7 +21,7 @@ use Rattle.sheets.specs.declared.check.Checked.the-variants.{Accepted, B
 
 -- ---- the form
 
--- the same bytes
+-- the same bytes: none differs, 'is missing or left over'
 unfoldable pub alike : List ℕ → List ℕ → Bool
 alike [] [] = true
 alike [] (y ∷ ys) = false
@@ -42,8 +42,8 @@ rising (e ∷ f ∷ rest) = earlier (e .node) (f .node) && rising (f ∷ rest)
 abbrev pub inTrellis : Code → ℕ → Entry → Bool
 inTrellis c l e = leb (e .node .level) (l + c .memory) && ltb (e .node .state) (2 ^ c .memory)
 
--- Writing what was read gives back just these bytes: so the length, the kind, L and the unused bits are as the layout says, and no byte
--- is missing or left over.
+-- Writing what was read gives back just these bytes: so the length, the kind, L and the unused bits are as the layout says. The form is
+-- bad 'if L differs from the caller's, or if a byte is missing or left over'.
 unfoldable pub framed : ℕ → List ℕ → Bool
 framed l bytes = alike (sheetBytes l (sheetRead l bytes)) bytes
 
@@ -57,26 +57,28 @@ formed c l bytes =
 
 -- ---- the claim
 
--- A to D, for the sheet's metric, entries and the path of its message
+-- 'It accepts exactly if all of these hold': A to D, for the sheet's metric, entries and the path of its message
 unfoldable pub carried : Trellis → Sheet → Bool
 carried t s = carries t (s .metric) (s .entries) (pathOf t (s .message))
 
--- 'An honest sheet lists exactly the reachable nodes of cost at most M, terminal included, with their costs': that of a message
+-- 'An honest sheet lists exactly the reachable nodes of cost at most M, terminal included, with their costs': that of a message. The
+-- check does not ask for it; the decoder that writes a sheet writes this one.
 abbrev pub honestSheet : Trellis → List ℕ → Sheet
 honestSheet t w = record { metric = leastMetric t; message = w; entries = honest t (leastMetric t) }
 
 -- ---- the answer
 
--- what the check hands back: the paper's number, the metric M or 0, and the message buffer as it is then
+-- What is handed back: the paper's number ('No.'), the metric M or 0 ('Handed back'), and the message buffer as it is then.
 pub record Checking : Type 0 where
   pub number : ℕ
   pub metric : ℕ
   pub message : List ℕ
 
-abbrev pub handed : ℕ → ℕ → List ℕ → Checking
+-- the same, part by part
+abbrev pub handed : (number metric : ℕ) (message : List ℕ) → Checking
 handed number metric message = record { number = number; metric = metric; message = message }
 
--- the paper's number and values for each case of the answer
+-- 'For each case of an enum answer, a definition gives this paper's number and values'; 'Values not named in a row are 0.'
 unfoldable pub told : Checked → List ℕ → Checking
 told (Accepted metric) message = handed 0 metric message
 told BadCode message = handed 1 0 message
@@ -84,13 +86,13 @@ told BadSize message = handed 2 0 message
 told Malformed message = handed 6 0 message
 told NotCarried message = handed 7 0 message
 
--- 'L from 1 to 200'; 'Symbols must number exactly N'; the message buffer holds L bytes
-abbrev pub sizesFit : Code → ℕ → ℕ → ℕ → Bool
+-- All sizes are as stated; else 2: 'L .. or a block length not as stated; an output buffer .. too short'. 'Symbols must number exactly N'.
+abbrev pub sizesFit : (c : Code) (l symbols room : ℕ) → Bool
 sizesFit c l symbols room = from shortestMessage longestMessage l && eqb symbols (blockLength c l) && leb l room
 
--- The refusals 1, 2, 6, 7 in their order, the buffer untouched; then 'the check gives M and writes the L message bytes', the excess
--- untouched.
-unfoldable pub checking : Code → ℕ → List ℤ → List ℕ → List ℕ → Checking
+-- 'They are tested in the order 1, 2, 6, ..; in the check 7 follows 6', and 'On any refusal every output buffer is untouched.' Then 'On
+-- acceptance the check gives M and writes the L message bytes'; a longer buffer's 'excess is untouched'.
+unfoldable pub checking : (c : Code) (l : ℕ) (symbols : List ℤ) (bytes message : List ℕ) → Checking
 checking c l symbols bytes message =
     cond (not (lawful c)) (handed 1 0 message)
     (cond (not (sizesFit c l (length symbols) (length message))) (handed 2 0 message)

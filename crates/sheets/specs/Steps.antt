@@ -1,5 +1,5 @@
 -- What the parts of the check promise each other: the entries as their own bytes say them, the cost that is listed for a node, the
--- message's path level by level, and the tests of one branch. Not for the reader: what the check answers is said in Checking alone.
+-- message's path level by level, and the tests of one branch. Not believed: what the check answers is said in Checking alone.
 -- Assumes nothing.
 use mathlib.Core.Path.{_≡_}
 use mathlib.Core.List.{List, [], _∷_, _++_}
@@ -9,7 +9,7 @@ use lib.Dec.{eqb, ltb, leb}
 use lib.ListN.{length, getD, drop}
 use Rattle.lists.specs.Lists.{all, below}
 use Rattle.codes.specs.declared.table.Code.{Code}
-use Rattle.codes.specs.Limits.{longestMessage}
+use Rattle.codes.specs.Limits.{shortestMessage, longestMessage}
 use Rattle.codes.specs.Codes.{lawful, blockLength}
 use Rattle.trellis.specs.Trellis.{Trellis, Path, Node, node, same, allowed, ends, metric}
 use Rattle.trellis.specs.Verdict.{Entry}
@@ -145,10 +145,10 @@ pub record Ready (c : Code) (l : ℕ) (block bytes states metrics : List ℕ) : 
   pub branching : Branching c l block (drop (entriesPlace l) bytes) states metrics
   pub small : (j : ℕ) → j ≤ l + c .memory → getD states j 0 < 65536
 
--- a code, a length and a sheet, before its form is tested
+-- a code and an L that were tested, before the sheet's form is
 pub record Askable (c : Code) (l : ℕ) : Type 0 where
   pub code : lawful c ≡ true
-  pub some : 1 ≤ l
+  pub some : shortestMessage ≤ l
   pub span : l ≤ longestMessage
 
 -- a code, so many symbols and a sheet of good form

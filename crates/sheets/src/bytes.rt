@@ -6,7 +6,7 @@ ghost use lib.Seq.{sets};
 ghost use Rattle.sheets.specs.Bytes.{bytesOf, numberAt};
 
 // The number in the two bytes from a place on.
-pub fn number16(bytes: &[u8], at: usize) -> u16
+pub fn two_bytes(bytes: &[u8], at: usize) -> u16
     requires { ⌜ at + 2 ≤ length (now bytes) ⌝ }
     ensures { λ r. ⌜ r ≡ numberAt 2 at (now (bytes .entry)) ⌝ }
 {
@@ -14,15 +14,15 @@ pub fn number16(bytes: &[u8], at: usize) -> u16
 }
 
 // The number in the four bytes from a place on.
-pub fn number32(bytes: &[u8], at: usize) -> u32
+pub fn four_bytes(bytes: &[u8], at: usize) -> u32
     requires { ⌜ at + 4 ≤ length (now bytes) ⌝ }
     ensures { λ r. ⌜ r ≡ numberAt 4 at (now (bytes .entry)) ⌝ }
 {
-    (number16(bytes, at) as u32) + 65536 * (number16(bytes, at + 2) as u32)
+    (two_bytes(bytes, at) as u32) + 65536 * (two_bytes(bytes, at + 2) as u32)
 }
 
 // Puts a number into the two bytes from a place on.
-pub fn put16(out: &mut [u8], at: usize, n: u16)
+pub fn put_two_bytes(out: &mut [u8], at: usize, n: u16)
     requires { ⌜ at + 2 ≤ length (now out) ⌝ }
     ensures { λ _. ⌜ now (out .exit) ≡ sets (now (out .entry)) at (bytesOf 2 n) ⌝ }
 {
@@ -31,10 +31,10 @@ pub fn put16(out: &mut [u8], at: usize, n: u16)
 }
 
 // Puts a number into the four bytes from a place on.
-pub fn put32(out: &mut [u8], at: usize, n: u32)
+pub fn put_four_bytes(out: &mut [u8], at: usize, n: u32)
     requires { ⌜ at + 4 ≤ length (now out) ⌝ }
     ensures { λ _. ⌜ now (out .exit) ≡ sets (now (out .entry)) at (bytesOf 4 n) ⌝ }
 {
-    put16(&mut *out, at, (n % 65536) as u16);
-    put16(&mut *out, at + 2, (n / 65536) as u16);
+    put_two_bytes(&mut *out, at, (n % 65536) as u16);
+    put_two_bytes(&mut *out, at + 2, (n / 65536) as u16);
 }

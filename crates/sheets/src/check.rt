@@ -1,6 +1,6 @@
 // The check of a decision sheet.
-use crate::bytes::number16;
-use crate::bytes::number32;
+use crate::bytes::four_bytes;
+use crate::bytes::two_bytes;
 use crate::claim::carries;
 use crate::entries::inside;
 use crate::entries::rise;
@@ -22,6 +22,7 @@ ghost use Rattle.sheets.specs.Bytes.{sheetRead};
 ghost use Rattle.sheets.specs.Checking.{formed, sizesFit, told, checking};
 ghost use Rattle.sheets.specs.Steps.{Askable, Whole, Room};
 
+// 'entry count, 1 to 4,096'.
 const MOST_ENTRIES: u16 = 4096;
 
 // What `check` answers: the metric of an accepted sheet, or a refusal.
@@ -35,7 +36,8 @@ pub enum Checked {
 
 // Checks a sheet for a block: accepted, its message is the only one of least metric. On a refusal nothing is written.
 pub fn check(code: Code, length: usize, symbols: &[i8], sheet: &[u8], message: &mut [u8]) -> Checked
-    ensures { λ r. ⌜ told r (now (message .exit)) ≡ checking code length (now (symbols .entry)) (now (sheet .entry)) (now (message .entry)) ⌝ }
+    ensures { λ r. ⌜ told r (now (message .exit))
+        ≡ checking code length (now (symbols .entry)) (now (sheet .entry)) (now (message .entry)) ⌝ }
 {
     if !keeps_rules(code) {
         return Checked::BadCode;
@@ -50,7 +52,7 @@ pub fn check(code: Code, length: usize, symbols: &[i8], sheet: &[u8], message: &
         return Checked::NotCarried;
     }
     take_message(length, sheet, &mut *message);
-    Checked::Accepted(number32(sheet, METRIC_PLACE))
+    Checked::Accepted(four_bytes(sheet, METRIC_PLACE))
 }
 
 // Whether L, the block and the message buffer have the sizes of a code.
@@ -78,7 +80,7 @@ fn formed(code: Code, length: usize, sheet: &[u8]) -> bool
     if !framed(length, sheet) {
         return false;
     }
-    let count = number16(sheet, COUNT_PLACE);
+    let count = two_bytes(sheet, COUNT_PLACE);
     if count < 1 {
         return false;
     }

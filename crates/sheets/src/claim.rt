@@ -1,5 +1,5 @@
 // The claim of a sheet of good form: the conditions A to D.
-use crate::bytes::number32;
+use crate::bytes::four_bytes;
 use crate::entries::cost;
 use crate::entries::level;
 use crate::entries::listed;
@@ -26,6 +26,9 @@ ghost use Rattle.blocks.specs.Blocks.{trellisOf};
 ghost use Rattle.sheets.specs.Bytes.{entryAt, sheetRead};
 ghost use Rattle.sheets.specs.Checking.{rising, carried};
 ghost use Rattle.sheets.specs.Steps.{entriesIn, onward, clear, allPassing, tested, Branching, Ready, Checkable, Place};
+
+// The nodes of the longest path: levels 0 to 200 + 16.
+const LONGEST_PATH: usize = 217;
 
 // B for a branch to a node at a cost in all, which may be any sum of two numbers of 32 bits.
 fn goes_on(entries: &[u8], metric: u64, level: u64, state: u64, total: u64) -> bool
@@ -71,7 +74,9 @@ fn branches_pass(
     i: usize,
 ) -> bool
     requires { ⌜ Branching code length (now seen) (now entries) (now states) (now metrics) × Place (now entries) i ⌝ }
-    ensures { λ r. ⌜ r ≡ allPassing (trellisOf code length (seenIn (now (seen .entry)))) (entriesIn (now (entries .entry))) metric (now (states .entry)) (now (metrics .entry)) (entryAt (now (entries .entry)) (8 * i)) ⌝ }
+    ensures { λ r. ⌜ r
+        ≡ allPassing (trellisOf code length (seenIn (now (seen .entry)))) (entriesIn (now (entries .entry))) metric
+        (now (states .entry)) (now (metrics .entry)) (entryAt (now (entries .entry)) (8 * i)) ⌝ }
 {
     let from = level(entries, i);
     let own = state(entries, i);
@@ -102,7 +107,9 @@ fn entries_pass(
     metrics: &[u64],
 ) -> bool
     requires { ⌜ Branching code length (now seen) (now entries) (now states) (now metrics) ⌝ }
-    ensures { λ r. ⌜ r ≡ all (allPassing (trellisOf code length (seenIn (now (seen .entry)))) (entriesIn (now (entries .entry))) metric (now (states .entry)) (now (metrics .entry))) (entriesIn (now (entries .entry))) ⌝ }
+    ensures { λ r. ⌜ r
+        ≡ all (allPassing (trellisOf code length (seenIn (now (seen .entry)))) (entriesIn (now (entries .entry))) metric
+        (now (states .entry)) (now (metrics .entry))) (entriesIn (now (entries .entry))) ⌝ }
 {
     let count = entries.len() / 8;
     let mut i = 0usize;
@@ -125,7 +132,9 @@ fn tests_pass(
     metrics: &[u64],
 ) -> bool
     requires { ⌜ Ready code length (now seen) (now sheet) (now states) (now metrics) ⌝ }
-    ensures { λ r. ⌜ r ≡ tested (trellisOf code length (seenIn (now (seen .entry)))) (sheetRead length (now (sheet .entry)) .entries) (sheetRead length (now (sheet .entry)) .metric) (now (states .entry)) (now (metrics .entry)) (length + code .memory) ⌝ }
+    ensures { λ r. ⌜ r
+        ≡ tested (trellisOf code length (seenIn (now (seen .entry)))) (sheetRead length (now (sheet .entry)) .entries)
+        (sheetRead length (now (sheet .entry)) .metric) (now (states .entry)) (now (metrics .entry)) (length + code .memory) ⌝ }
 {
     let place = entries_place(length);
     let entries = &sheet[place..];
@@ -133,7 +142,7 @@ fn tests_pass(
     if !path_listed(entries, states, metrics, top) {
         return false;
     }
-    let metric = number32(sheet, METRIC_PLACE) as u64;
+    let metric = four_bytes(sheet, METRIC_PLACE) as u64;
     if metrics[top] != metric {
         return false;
     }
@@ -145,8 +154,8 @@ fn holds(code: Code, length: usize, seen: &[u16], sheet: &[u8]) -> bool
     requires { do ⌜ Checkable code length (← ⟦seen.len()⟧) (now sheet) ⌝ }
     ensures { λ r. ⌜ r ≡ carried (trellisOf code length (seenIn (now (seen .entry)))) (sheetRead length (now (sheet .entry))) ⌝ }
 {
-    let mut states = [0u64; 217];
-    let mut metrics = [0u64; 217];
+    let mut states = [0u64; LONGEST_PATH];
+    let mut metrics = [0u64; LONGEST_PATH];
     walk(code, length, seen, sheet, &mut states, &mut metrics);
     tests_pass(code, length, seen, sheet, &states, &metrics)
 }

@@ -1,9 +1,8 @@
 // The entries of a sheet, eight bytes each, and what they say of a node.
-use crate::bytes::number16;
-use crate::bytes::number32;
+use crate::bytes::four_bytes;
+use crate::bytes::two_bytes;
 ghost use mathlib.Core.Path.{_≡_};
-ghost use mathlib.Core.Bool.{true};
-ghost use mathlib.Core.Bool.{_&&_};
+ghost use mathlib.Core.Bool.{true, _&&_};
 ghost use Prim.Native.Nat.{_+_, _*_, _<_};
 ghost use lib.Dec.{leb, ltb};
 ghost use Rattle.lists.specs.Lists.{all};
@@ -12,7 +11,7 @@ ghost use Rattle.sheets.specs.Bytes.{entryAt};
 ghost use Rattle.sheets.specs.Checking.{rising};
 ghost use Rattle.sheets.specs.Steps.{entriesIn, keyOf, Sought, listedCost, Place};
 
-// More than any cost of four bytes.
+// Where a node is not listed: more than any cost of four bytes.
 const ABSENT: u64 = 4294967296;
 
 // Level, state and cost of entry i.
@@ -20,24 +19,24 @@ pub fn level(entries: &[u8], i: usize) -> u64
     requires { ⌜ Place (now entries) i ⌝ }
     ensures { λ r. ⌜ (r ≡ entryAt (now (entries .entry)) (8 * i) .node .level) × (r < 65536) ⌝ }
 {
-    number16(entries, 8 * i) as u64
+    two_bytes(entries, 8 * i) as u64
 }
 
 pub fn state(entries: &[u8], i: usize) -> u64
     requires { ⌜ Place (now entries) i ⌝ }
     ensures { λ r. ⌜ (r ≡ entryAt (now (entries .entry)) (8 * i) .node .state) × (r < 65536) ⌝ }
 {
-    number16(entries, 8 * i + 2) as u64
+    two_bytes(entries, 8 * i + 2) as u64
 }
 
 pub fn cost(entries: &[u8], i: usize) -> u64
     requires { ⌜ Place (now entries) i ⌝ }
     ensures { λ r. ⌜ (r ≡ entryAt (now (entries .entry)) (8 * i) .cost) × (r < 4294967296) ⌝ }
 {
-    number32(entries, 8 * i + 4) as u64
+    four_bytes(entries, 8 * i + 4) as u64
 }
 
-// Level and state as one number.
+// Level and state as one number: two of them compare as level, then state do, since a state has two bytes.
 fn key(entries: &[u8], i: usize) -> u64
     requires { ⌜ Place (now entries) i ⌝ }
     ensures { λ r. ⌜ r ≡ keyOf (entryAt (now (entries .entry)) (8 * i) .node) ⌝ }

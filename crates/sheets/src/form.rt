@@ -1,12 +1,14 @@
 // The form of a sheet, but for its entries: the places of its parts, the numbers in front, the message.
-use crate::bytes::number16;
-use crate::bytes::number32;
+use crate::bytes::four_bytes;
+use crate::bytes::two_bytes;
 ghost use mathlib.Core.Path.{_≡_};
 ghost use Prim.Native.Nat.{_+_, _≤_};
 ghost use lib.ListN.{length};
+ghost use Rattle.codes.specs.Limits.{shortestMessage, longestMessage};
 ghost use Rattle.sheets.specs.Bytes.{messageSize, messagePlace, entriesPlace, bitAt};
 ghost use Rattle.sheets.specs.Checking.{framed};
 
+// 'kind 257'.
 pub const KIND: u16 = 257;
 
 // The places of the numbers in front, and of the message behind them.
@@ -22,7 +24,7 @@ pub const MESSAGE_PLACE: usize = 14;
 
 // The place of the first entry, behind a message of so many bits.
 pub fn entries_place(length: usize) -> usize
-    requires { ⌜ length ≤ 200 ⌝ }
+    requires { ⌜ length ≤ longestMessage ⌝ }
     ensures { λ r. ⌜ r ≡ entriesPlace length ⌝ }
 {
     MESSAGE_PLACE + (length + 7) / 8
@@ -31,7 +33,7 @@ pub fn entries_place(length: usize) -> usize
 // Whether the bytes are those of a sheet for messages of so many bits: all there, none left over, with the right numbers in front and
 // the unused bits 0.
 pub fn framed(length: usize, sheet: &[u8]) -> bool
-    requires { ⌜ (1 ≤ length) × (length ≤ 200) ⌝ }
+    requires { ⌜ (shortestMessage ≤ length) × (length ≤ longestMessage) ⌝ }
     ensures { λ r. ⌜ r ≡ framed length (now (sheet .entry)) ⌝ }
 {
     let size = sheet.len();
@@ -39,16 +41,16 @@ pub fn framed(length: usize, sheet: &[u8]) -> bool
     if size < place {
         return false;
     }
-    if size != place + 8 * number16(sheet, COUNT_PLACE) as usize {
+    if size != place + 8 * two_bytes(sheet, COUNT_PLACE) as usize {
         return false;
     }
-    if number32(sheet, 0) as usize != size - 4 {
+    if four_bytes(sheet, 0) as usize != size - 4 {
         return false;
     }
-    if number16(sheet, KIND_PLACE) != KIND {
+    if two_bytes(sheet, KIND_PLACE) != KIND {
         return false;
     }
-    if number16(sheet, LENGTH_PLACE) as usize != length {
+    if two_bytes(sheet, LENGTH_PLACE) as usize != length {
         return false;
     }
     let unused = 8 * (place - MESSAGE_PLACE) - length;
@@ -57,7 +59,7 @@ pub fn framed(length: usize, sheet: &[u8]) -> bool
 
 // Bit i of the message.
 pub fn bit(sheet: &[u8], i: usize) -> u8
-    requires { ⌜ (i ≤ 200) × (messagePlace + messageSize (i + 1) ≤ length (now sheet)) ⌝ }
+    requires { ⌜ (i ≤ longestMessage) × (messagePlace + messageSize (i + 1) ≤ length (now sheet)) ⌝ }
     ensures { λ r. ⌜ r ≡ bitAt (now (sheet .entry)) i ⌝ }
 {
     let byte = sheet[MESSAGE_PLACE + i / 8];

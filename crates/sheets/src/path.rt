@@ -35,7 +35,8 @@ pub fn walk(
     metrics: &mut [u64],
 )
     requires { ⌜ Walkable code length (now seen) (now sheet) (now states) (now metrics) ⌝ }
-    ensures { λ _. ⌜ Walked (trellisOf code length (seenIn (now (seen .entry)))) (sheetRead length (now (sheet .entry)) .message) (length + code .memory) (now (states .exit)) (now (metrics .exit)) ⌝ }
+    ensures { λ _. ⌜ Walked (trellisOf code length (seenIn (now (seen .entry)))) (sheetRead length (now (sheet .entry)) .message)
+        (length + code .memory) (now (states .exit)) (now (metrics .exit)) ⌝ }
 {
     let top = length + code.memory as usize;
     let mut state = 0u64;
@@ -56,7 +57,8 @@ pub fn walk(
 // C: whether each node of the path is listed, its cost the metric so far.
 pub fn path_listed(entries: &[u8], states: &[u64], metrics: &[u64], top: usize) -> bool
     requires { ⌜ Followed (now entries) (now states) (now metrics) top ⌝ }
-    ensures { λ r. ⌜ r ≡ all (onPath (entriesIn (now (entries .entry))) (now (states .entry)) (now (metrics .entry))) (series (top + 1) (λ j. j)) ⌝ }
+    ensures { λ r. ⌜ r
+        ≡ all (onPath (entriesIn (now (entries .entry))) (now (states .entry)) (now (metrics .entry))) (series (top + 1) (λ j. j)) ⌝ }
 {
     let mut level = 0usize;
     while level <= top {

@@ -32,7 +32,8 @@ code-lawful c = sym (c .before .keeps-rules .ensures) ∙ not-false (c .before .
 abbrev first : tie.Else2 → tie.Else1
 first d = d .before .before
 
-sizes-fit : (d : tie.Else2) → let s = start (first d) in sizesFit (s .args .code) (s .args .length) (length (s .args .symbols .now)) (length (s .args .message .now)) ≡ true
+sizes-fit : (d : tie.Else2) → let s = start (first d) in
+    sizesFit (s .args .code) (s .args .length) (length (s .args .symbols .now)) (length (s .args .message .now)) ≡ true
 sizes-fit d = sym (d .before .sizes-fit .ensures) ∙ not-false (d .before .sizes-fit .result) (d .if2 .left)
 
 sizes : (d : tie.Else2) → let s = start (first d) in Sizes (s .args .code) (s .args .length) (length (s .args .symbols .now)) (length (s .args .message .now))
@@ -51,13 +52,15 @@ frame : (e : tie.Else3) → let s = start (first (second e)) in Framed (s .args 
 frame e =
     let d = second e in
     let s = start (first d) in
-    framed-test (s .args .length) (s .args .sheet .now) (λ i. first d .before .before .before .shared-slice-known .given i .fits) (sizes d .some) (omega (arith, sizes d .span)) .out
+    framed-test (s .args .length) (s .args .sheet .now) (λ i. first d .before .before .before .shared-slice-known .given i .fits) (sizes d .some)
+    (omega (arith, sizes d .span)) .out
     (true-in (framed (s .args .length) (s .args .sheet .now)) (formed-out (s .args .code) (s .args .length) (s .args .sheet .now) (form-good e) .frame))
 
 abbrev third : tie.Else4 → tie.Else3
 third g = g .before .before
 
-claim-carried : (g : tie.Else4) → let s = start (first (second (third g))) in carried (trellisOf (s .args .code) (s .args .length) (view (s .args .symbols .now))) (sheetRead (s .args .length) (s .args .sheet .now)) ≡ true
+claim-carried : (g : tie.Else4) → let s = start (first (second (third g))) in
+    carried (trellisOf (s .args .code) (s .args .length) (view (s .args .symbols .now))) (sheetRead (s .args .length) (s .args .sheet .now)) ≡ true
 claim-carried g = sym (g .before .carries .ensures) ∙ not-false (g .before .carries .result) (g .if4 .left)
 
 -- ---- the answers
@@ -74,7 +77,8 @@ sizes-fit-requires c κs = code-lawful c
 
 returns-2 : tie.Need-returns-2
 unfolding told
-returns-2 c = sym (checking-size _ _ _ _ _ (code-lawful (c .before .before)) (sym (c .before .sizes-fit .ensures) ∙ not-true (c .before .sizes-fit .result) (c .if2 .taken)))
+returns-2 c = sym (checking-size _ _ _ _ _ (code-lawful (c .before .before))
+    (sym (c .before .sizes-fit .ensures) ∙ not-true (c .before .sizes-fit .result) (c .if2 .taken)))
 
 formed-requires : tie.Need-formed-requires
 formed-requires c κs = askable c
@@ -83,7 +87,8 @@ returns-3 : tie.Need-returns-3
 unfolding told
 returns-3 c =
     let d = c .before .before in
-    sym (checking-form _ _ _ _ _ (code-lawful (first d)) (sizes-fit d) (sym (c .before .formed .ensures) ∙ not-true (c .before .formed .result) (c .if3 .taken)))
+    sym (checking-form _ _ _ _ _ (code-lawful (first d)) (sizes-fit d)
+    (sym (c .before .formed .ensures) ∙ not-true (c .before .formed .result) (c .if3 .taken)))
 
 carries-requires : tie.Need-carries-requires
 carries-requires c κs = let d = second c in record { askable = askable d; full = sizes d .full; form = form-good c }
@@ -93,7 +98,8 @@ unfolding told
 returns-4 c =
     let e = c .before .before in
     let d = second e in
-    sym (checking-claim _ _ _ _ _ (code-lawful (first d)) (sizes-fit d) (form-good e) (sym (c .before .carries .ensures) ∙ not-true (c .before .carries .result) (c .if4 .taken)))
+    sym (checking-claim _ _ _ _ _ (code-lawful (first d)) (sizes-fit d) (form-good e)
+    (sym (c .before .carries .ensures) ∙ not-true (c .before .carries .result) (c .if4 .taken)))
 
 take-message-requires : tie.Need-take-message-requires
 take-message-requires c κs =
@@ -101,8 +107,8 @@ take-message-requires c κs =
     let d = second e in
     (record { span = sizes d .span; size = omega (arith, frame e .size) }, sizes d .fits)
 
-number32-requires : tie.Need-number32-requires
-number32-requires c κs = omega (arith, frame (third (c .before .before .before .before)) .size)
+four-bytes-requires : tie.Need-four-bytes-requires
+four-bytes-requires c κs = omega (arith, frame (third (c .before .before .before .before)) .size)
 
 same-length : tie.Need-same-length
 same-length c = search needs
@@ -122,8 +128,9 @@ returns-5 c =
     t .take-message .ensures
     ∙ sets-front (s .args .message .now) bits (omega (arith, n, sizes d .fits))
     ∙ ap (λ (k : ℕ). bits ++ drop k (s .args .message .now)) n in
-    ap₂ (handed 0) (c .number32 .ensures) w
-    ∙ sym (checking-accepted (s .args .code) l (s .args .symbols .now) (s .args .sheet .now) (s .args .message .now) (code-lawful (first d)) (sizes-fit d) (form-good e) (claim-carried g))
+    ap₂ (handed 0) (c .four-bytes .ensures) w
+    ∙ sym (checking-accepted (s .args .code) l (s .args .symbols .now) (s .args .sheet .now) (s .args .message .now) (code-lawful (first d))
+    (sizes-fit d) (form-good e) (claim-carried g))
 
 pub check-spec : {M : Type 1} → statement M
 check-spec =
@@ -138,6 +145,6 @@ check-spec =
     carries-requires
     returns-4
     take-message-requires
-    number32-requires
+    four-bytes-requires
     same-length
     returns-5)

@@ -32,18 +32,20 @@ frame-passed c = sym (c .before .framed .ensures) ∙ not-false (c .before .fram
 frame : (c : tie.Else1) → Framed (start c .args .length) (start c .args .sheet .now)
 frame c =
     let s = start c in
-    framed-test (s .args .length) (s .args .sheet .now) (λ i. c .before .before .shared-slice-known .given i .fits) (s .pre .some) (omega (arith, s .pre .span)) .out
+    framed-test (s .args .length) (s .args .sheet .now) (λ i. c .before .before .shared-slice-known .given i .fits) (s .pre .some)
+    (omega (arith, s .pre .span)) .out
     (true-in (framed (s .args .length) (s .args .sheet .now)) (frame-passed c))
 
 abbrev first : tie.Else3 → tie.Else1
 first c = c .before .before .before
 
 count-passed : (c : tie.Else3) → from 1 mostEntries (numberAt 2 countPlace (start (first c) .args .sheet .now)) ≡ true
-count-passed c = ap (from 1 mostEntries) (sym (c .before .before .number16 .ensures)) ∙ rw (le-leb _ _ (c .before .if2 .left), le-leb _ _ (c .if3 .left))
+count-passed c = ap (from 1 mostEntries) (sym (c .before .before .two-bytes .ensures)) ∙ rw (le-leb _ _ (c .before .if2 .left), le-leb _ _ (c .if3 .left))
 
 -- the entries that are lent are the sheet's
 listed : (c : tie.After-entries) → let s = start (first (c .before .before)) in let bytes = s .args .sheet .now in
-    entriesIn (take (length bytes - c .before .entries-place .result) (drop (c .before .entries-place .result) bytes)) ≡ sheetRead (s .args .length) bytes .entries
+    entriesIn (take (length bytes - c .before .entries-place .result) (drop (c .before .entries-place .result) bytes))
+    ≡ sheetRead (s .args .length) bytes .entries
 listed c =
     let d = first (c .before .before) in
     let s = start d in
@@ -62,23 +64,27 @@ framed-requires : tie.Need-framed-requires
 framed-requires c κs = search needs
 
 returns : tie.Need-returns
-returns c = let s = c .before .before .before in sym (formed-frame (s .args .code) (s .args .length) (s .args .sheet .now) (sym (c .before .framed .ensures) ∙ not-true (c .before .framed .result) (c .if1 .taken)))
+returns c = let s = c .before .before .before in
+    sym (formed-frame (s .args .code) (s .args .length) (s .args .sheet .now)
+    (sym (c .before .framed .ensures) ∙ not-true (c .before .framed .result) (c .if1 .taken)))
 
-number16-requires : tie.Need-number16-requires
-number16-requires c κs = omega (arith, frame c .size)
+two-bytes-requires : tie.Need-two-bytes-requires
+two-bytes-requires c κs = omega (arith, frame c .size)
 
 returns-2 : tie.Need-returns-2
 returns-2 c =
     let d = c .before .before in
     let s = start d in
-    sym (formed-count (s .args .code) (s .args .length) (s .args .sheet .now) (frame-passed d) (ap (from 1 mostEntries) (sym (c .before .number16 .ensures)) ∙ rw (lt-leb _ _ (c .if2 .taken))))
+    sym (formed-count (s .args .code) (s .args .length) (s .args .sheet .now) (frame-passed d)
+    (ap (from 1 mostEntries) (sym (c .before .two-bytes .ensures)) ∙ rw (lt-leb _ _ (c .if2 .taken))))
 
 returns-3 : tie.Need-returns-3
 returns-3 c =
     let e = c .before in
     let d = e .before .before in
     let s = start d in
-    sym (formed-count (s .args .code) (s .args .length) (s .args .sheet .now) (frame-passed d) (ap (from 1 mostEntries) (sym (e .before .number16 .ensures)) ∙ rw (le-leb _ _ (e .if2 .left), lt-leb _ _ (c .if3 .taken))))
+    sym (formed-count (s .args .code) (s .args .length) (s .args .sheet .now) (frame-passed d)
+    (ap (from 1 mostEntries) (sym (e .before .two-bytes .ensures)) ∙ rw (le-leb _ _ (e .if2 .left), lt-leb _ _ (c .if3 .taken))))
 
 entries-place-requires : tie.Need-entries-place-requires
 entries-place-requires c κs = search needs
@@ -128,7 +134,8 @@ returns-5 c =
     let ordered : rising (sheetRead (s .args .length) (s .args .sheet .now) .entries) ≡ true =
     ap rising (sym (listed (r .before))) ∙ sym (r .rise .ensures) ∙ not-false (r .rise .result) (c .before .if4 .left) in
     c .inside .ensures
-    ∙ (λ z. all (λ e. leb (e .node .level) (s .args .length + s .args .code .memory) && ltb (e .node .state) (shifted (s .args .code .memory) (memory-most s) z)) (listed (r .before) z))
+    ∙ (λ z. all (λ e. leb (e .node .level) (s .args .length + s .args .code .memory)
+    && ltb (e .node .state) (shifted (s .args .code .memory) (memory-most s) z)) (listed (r .before) z))
     ∙ sym (formed-nodes (s .args .code) (s .args .length) (s .args .sheet .now) (frame-passed d) (count-passed e) ordered)
 
 pub formed-spec : {M : Type 1} → statement M
@@ -137,7 +144,7 @@ formed-spec =
     (tie.spec
     framed-requires
     returns
-    number16-requires
+    two-bytes-requires
     returns-2
     returns-3
     entries-place-requires

@@ -2,7 +2,7 @@
 -- Assumes nothing.
 use mathlib.Core.Path.{_≡_, refl, sym, ap, _∙_}
 use mathlib.Core.List.{List}
-use Prim.Native.Nat.{ℕ, _-_, _≤_}
+use Prim.Native.Nat.{ℕ, _-_}
 use native.Mathlib.Numerals.{add-one}
 use native.Mathlib.Omega.{arith}
 use lib.ListN.{length, getD, drop, length-set, drop-of-length-le}
@@ -12,9 +12,13 @@ use Rattle.sheets.proofs.Series.{length-series, getD-series}
 use Rattle.sheets.proofs.check.take_message.Statement.{statement}
 use Rattle.sheets.proofs.check.take_message.Tie as tie
 
+-- the bits before i are taken
+record Taking (bits first message : List ℕ) (i : ℕ) : Type 0 where
+  kept : length message ≡ length first
+  rest : sets message i (drop i bits) ≡ sets first 0 bits
+
 abbrev Inv-loop : tie.InvT-loop
-Inv-loop l sheet message₀ i₀ message i =
-    (i ≤ l) × (length message ≡ length message₀) × (sets message i (drop i (sheetRead l sheet .message)) ≡ sets message₀ 0 (sheetRead l sheet .message))
+Inv-loop l sheet message₀ i₀ message i = Taking (sheetRead l sheet .message) message₀ message i
 
 abbrev μ-loop : tie.MeasureT-loop
 μ-loop l sheet message₀ i₀ message i = l - i
@@ -41,13 +45,13 @@ written c =
 -- ---- the answers
 
 loop-holds : tie.Need-loop-holds Inv-loop μ-loop
-loop-holds c = (omega arith, refl, refl)
+loop-holds c = record { kept = refl; rest = refl }
 
 bit-requires : tie.Need-bit-requires Inv-loop μ-loop
 bit-requires c κs = let s = start (c .before) in (omega (arith, s .pre .0 .span), omega (arith, s .pre .0 .size, c .loop-test .taken))
 
 slice-write-message : tie.Need-slice-write-message Inv-loop μ-loop
-slice-write-message c = let a = c .before .before in omega (arith, start a .pre .1, a .loop .inv .1, c .before .loop-test .taken)
+slice-write-message c = let a = c .before .before in omega (arith, start a .pre .1, a .loop .inv .kept, c .before .loop-test .taken)
 
 add-i : tie.Need-add-i Inv-loop μ-loop
 add-i c = omega arith
@@ -58,20 +62,22 @@ loop-less c = omega arith
 loop-again : tie.Need-loop-again Inv-loop μ-loop
 loop-again c =
     let a = c .before .before in
-    let s = start a in (
-      omega arith,
-      simp length-set (a .loop .inv .1),
-      rw (written c, add-one) (sym (ap (sets (a .loop .message) (a .loop .i)) (drop-cons (bits s) (a .loop .i) 0 (omega (arith, bits-length s, c .before .loop-test .taken)))) ∙ a .loop .inv .2),
-    )
+    let s = start a in
+    let next = drop-cons (bits s) (a .loop .i) 0 (omega (arith, bits-length s, c .before .loop-test .taken)) in
+    record {
+      kept = simp length-set (a .loop .inv .kept);
+      rest = rw (written c, add-one) (sym (ap (sets (a .loop .message) (a .loop .i)) next) ∙ a .loop .inv .rest);
+    }
 
 same-length : tie.Need-same-length Inv-loop μ-loop
-same-length c = c .before .loop .inv .1
+same-length c = c .before .loop .inv .kept
 
 returns : tie.Need-returns Inv-loop μ-loop
 returns c =
     let a = c .before in
     let s = start a in
-    sym (ap (sets (a .loop .message) (a .loop .i)) (drop-of-length-le (bits s) {i = a .loop .i} (omega (arith, bits-length s, c .loop-test .left)))) ∙ a .loop .inv .2
+    let past = drop-of-length-le (bits s) {i = a .loop .i} (omega (arith, bits-length s, c .loop-test .left)) in
+    sym (ap (sets (a .loop .message) (a .loop .i)) past) ∙ a .loop .inv .rest
 
 pub take-message-spec : {M : Type 1} → statement M
 take-message-spec =

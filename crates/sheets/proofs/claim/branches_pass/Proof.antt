@@ -24,15 +24,20 @@ use Rattle.sheets.specs.Bytes.{entryAt}
 use Rattle.sheets.specs.Checking.{inTrellis}
 use Rattle.sheets.specs.Steps.{entriesIn, onward, clear, passing, allPassing}
 use Rattle.sheets.proofs.Agree.{first-fails, second-fails, both-pass}
-use Rattle.sheets.proofs.Listing.{none, length-entriesIn, entriesIn-at}
+use Rattle.trellis.proofs.Listing.{noEntry}
+use Rattle.sheets.proofs.Listing.{length-entriesIn, entriesIn-at}
 use Rattle.sheets.proofs.Inputs.{below-first, below-none, inTrellis-out}
 use Rattle.sheets.proofs.claim.branches_pass.Statement.{statement}
 use Rattle.sheets.proofs.claim.branches_pass.Tie as tie
 
+-- the inputs from this one on are tested
+record Trying (test : ℕ → Bool) (inputs input : ℕ) : Type 0 where
+  within : input ≤ inputs
+  rest : all test (below input) ≡ all test (below inputs)
+
 abbrev Inv-loop : tie.InvT-loop
 Inv-loop code l metric seen entries states metrics i from own spent input₀ input =
-    let test = passing (trellisOf code l (seenIn seen)) (entriesIn entries) metric states metrics (entryAt entries (8 * i)) in
-    (input ≤ input₀) × (all test (below input) ≡ all test (below input₀))
+    Trying (passing (trellisOf code l (seenIn seen)) (entriesIn entries) metric states metrics (entryAt entries (8 * i))) input₀ input
 
 abbrev μ-loop : tie.MeasureT-loop
 μ-loop code l metric seen entries states metrics i from own spent input₀ input = input
@@ -63,7 +68,8 @@ inside s =
     let entries = s .args .entries .now in
     inTrellis-out (s .args .code) (s .args .length) (own s)
     (ap (inTrellis (s .args .code) (s .args .length)) (sym (entriesIn-at entries (s .args .i) (s .pre .1)))
-    ∙ all-within (inTrellis (s .args .code) (s .args .length)) (entriesIn entries) none (s .args .i) (omega (arith, length-entriesIn entries, s .pre .1)) (s .pre .0 .inside))
+    ∙ all-within (inTrellis (s .args .code) (s .args .length)) (entriesIn entries) noEntry (s .args .i)
+    (omega (arith, length-entriesIn entries, s .pre .1)) (s .pre .0 .inside))
 
 -- what was read of the entry
 level-is : (a : tie.At-loop Inv-loop μ-loop) → entered a .level .result ≡ own (start (entered a)) .node .level
@@ -74,10 +80,12 @@ state-is a = a .before .before .before .state .ensures .0
 
 -- the input of a turn is allowed
 allowed-input : (w : tie.In-loop Inv-loop μ-loop) → let a = w .before in a .loop .input - 1 < allowed (trellis (start (entered a))) (entered a .level .result)
-allowed-input w = let a = w .before in omega (arith, w .loop-test .taken, a .loop .inv .0, a .before .allowed .ensures (seenIn (start (entered a) .args .seen .now)))
+allowed-input w = let a = w .before in
+    omega (arith, w .loop-test .taken, a .loop .inv .within, a .before .allowed .ensures (seenIn (start (entered a) .args .seen .now)))
 
 -- so a level is left
-level-left : (w : tie.In-loop Inv-loop μ-loop) → let a = w .before in let s = start (entered a) in entered a .level .result < s .args .length + s .args .code .memory
+level-left : (w : tie.In-loop Inv-loop μ-loop) → let a = w .before in let s = start (entered a) in
+    entered a .level .result < s .args .length + s .args .code .memory
 level-left w = let a = w .before in allowed-top (trellis (start (entered a))) (entered a .level .result) (a .loop .input - 1) (allowed-input w)
 
 bit : (w : tie.In-loop Inv-loop μ-loop) → w .before .loop .input - 1 ≤ 1
@@ -91,14 +99,16 @@ state-below a = omega (arith, state-is a, inside (start (entered a)) .1)
 
 -- what the branch brings
 arrives : (c : tie.After-next Inv-loop μ-loop) → let w = c .before .before in let a = w .before in
-    entry (a .before .before .cost .result + c .before .price .result) (entered a .level .result + 1) (c .next .result) ≡ onto (trellis (start (entered a))) (own (start (entered a))) (a .loop .input - 1)
+    entry (a .before .before .cost .result + c .before .price .result) (entered a .level .result + 1) (c .next .result)
+    ≡ onto (trellis (start (entered a))) (own (start (entered a))) (a .loop .input - 1)
 arrives c =
     let w = c .before .before in
     let a = w .before in
     let s = start (entered a) in
     let b = a .loop .input - 1 in
     entry-path
-    (ap₂ (λ (x y : ℕ). x + y) (a .before .before .cost .ensures .0) (c .before .price .ensures .0 ∙ ap₂ (λ (x y : ℕ). branchCost (s .args .code) (seenIn (s .args .seen .now)) x y b) (level-is a) (state-is a)))
+    (ap₂ (λ (x y : ℕ). x + y) (a .before .before .cost .ensures .0)
+    (c .before .price .ensures .0 ∙ ap₂ (λ (x y : ℕ). branchCost (s .args .code) (seenIn (s .args .seen .now)) x y b) (level-is a) (state-is a)))
     (node-path (add-one (entered a .level .result) ∙ ap suc (level-is a)) (c .next .ensures .0 ∙ ap (nextState (s .args .code .memory) b) (state-is a)))
 
 -- what the two tests say of the branch
@@ -109,22 +119,26 @@ first-test c =
     let s = start (entered a) in
     c .goes-on .ensures ∙ ap (onward (entriesIn (s .args .entries .now)) (s .args .metric)) (arrives (c .before))
 
-second-test : (c : tie.After-stays-clear Inv-loop μ-loop) → let n = c .before .before .before in let a = n .before .before .before in let s = start (entered a) in
-    c .stays-clear .result ≡ clear (s .args .states .now) (s .args .metrics .now) (own s .node .level) (own s .node .state) (onto (trellis s) (own s) (a .loop .input - 1) .node .state) (onto (trellis s) (own s) (a .loop .input - 1) .cost)
+second-test : (c : tie.After-stays-clear Inv-loop μ-loop) → let n = c .before .before .before in let a = n .before .before .before in
+    let s = start (entered a) in
+    c .stays-clear .result ≡ clear (s .args .states .now) (s .args .metrics .now) (own s .node .level) (own s .node .state)
+    (onto (trellis s) (own s) (a .loop .input - 1) .node .state) (onto (trellis s) (own s) (a .loop .input - 1) .cost)
 second-test c =
     let n = c .before .before .before in
     let a = n .before .before .before in
     let s = start (entered a) in
-    c .stays-clear .ensures ∙ (λ z. clear (s .args .states .now) (s .args .metrics .now) (level-is a z) (state-is a z) (arrives n z .node .state) (arrives n z .cost))
+    c .stays-clear .ensures
+    ∙ (λ z. clear (s .args .states .now) (s .args .metrics .now) (level-is a z) (state-is a z) (arrives n z .node .state) (arrives n z .cost))
 
 -- all inputs, by the one at hand
 turned : (w : tie.In-loop Inv-loop μ-loop) → let a = w .before in let s = start (entered a) in
     all (test s) (below (a .before .allowed .result)) ≡ test s (a .loop .input - 1) && all (test s) (below (a .loop .input - 1))
-turned w = let a = w .before in let s = start (entered a) in sym (a .loop .inv .1) ∙ below-first (test s) (a .loop .input) (w .loop-test .taken)
+turned w = let a = w .before in let s = start (entered a) in sym (a .loop .inv .rest) ∙ below-first (test s) (a .loop .input) (w .loop-test .taken)
 
 -- the contract speaks of the entry's own level
 counted : (a : tie.At-loop Inv-loop μ-loop) → let s = start (entered a) in
-    allPassing (trellis s) (entriesIn (s .args .entries .now)) (s .args .metric) (s .args .states .now) (s .args .metrics .now) (own s) ≡ all (test s) (below (a .before .allowed .result))
+    allPassing (trellis s) (entriesIn (s .args .entries .now)) (s .args .metric) (s .args .states .now) (s .args .metrics .now) (own s)
+    ≡ all (test s) (below (a .before .allowed .result))
 unfolding allPassing
 counted a =
     let s = start (entered a) in
@@ -145,7 +159,7 @@ allowed-requires : tie.Need-allowed-requires Inv-loop μ-loop
 allowed-requires c κs = tt
 
 loop-holds : tie.Need-loop-holds Inv-loop μ-loop
-loop-holds c = (omega arith, refl)
+loop-holds c = record { within = omega arith; rest = refl }
 
 sub-input : tie.Need-sub-input Inv-loop μ-loop
 sub-input c = omega arith
@@ -154,7 +168,8 @@ price-requires : tie.Need-price-requires Inv-loop μ-loop
 price-requires c κs =
     let a = c .before in
     let s = start (entered a) in
-    priceable (s .args .code) (s .args .length) (length (s .args .seen .now)) (entered a .level .result) (a .before .before .before .state .result) (a .loop .input - 1) (seenIn (s .args .seen .now)) (s .pre .0 .code) (s .pre .0 .full) (state-below a) (allowed-input c)
+    priceable (s .args .code) (s .args .length) (length (s .args .seen .now)) (entered a .level .result) (a .before .before .before .state .result)
+    (a .loop .input - 1) (seenIn (s .args .seen .now)) (s .pre .0 .code) (s .pre .0 .full) (state-below a) (allowed-input c)
 
 add-total : tie.Need-add-total Inv-loop μ-loop
 add-total c = let a = c .before .before in omega (arith, a .before .before .cost .ensures .1, c .price .ensures .1)
@@ -172,8 +187,11 @@ goes-on-requires : tie.Need-goes-on-requires Inv-loop μ-loop
 goes-on-requires c κs =
     let w = c .before .before in
     let a = w .before in
-    let s = start (entered a) in
-    (s .pre .0 .ordered, omega (arith, level-left w, s .pre .0 .span, bounds s .memory-most), omega (arith, c .next .ensures .1, pow-mono {i = s .args .code .memory} {j = 16} (bounds s .memory-most)))
+    let s = start (entered a) in (
+      s .pre .0 .ordered,
+      omega (arith, level-left w, s .pre .0 .span, bounds s .memory-most),
+      omega (arith, c .next .ensures .1, pow-mono {i = s .args .code .memory} {j = 16} (bounds s .memory-most)),
+    )
 
 returns : tie.Need-returns Inv-loop μ-loop
 returns c =
@@ -193,7 +211,10 @@ returns-2 c =
     let t = c .before in
     let g = t .before .before in
     let w = g .before .before .before in
-    sym (counted (w .before) ∙ turned w ∙ second-fails _ _ _ (sym (first-test g) ∙ not-false (g .goes-on .result) (t .before .if1 .left)) (sym (second-test t) ∙ not-true (t .stays-clear .result) (c .if2 .taken)))
+    sym (counted (w .before)
+    ∙ turned w
+    ∙ second-fails _ _ _ (sym (first-test g) ∙ not-false (g .goes-on .result) (t .before .if1 .left))
+    (sym (second-test t) ∙ not-true (t .stays-clear .result) (c .if2 .taken)))
 
 loop-less : tie.Need-loop-less Inv-loop μ-loop
 loop-less c = omega arith
@@ -202,16 +223,20 @@ loop-again : tie.Need-loop-again Inv-loop μ-loop
 loop-again c =
     let t = c .before in
     let g = t .before .before in
-    let w = g .before .before .before in (
-      omega (arith, w .before .loop .inv .0),
-      sym (turned w ∙ both-pass _ _ _ (sym (first-test g) ∙ not-false (g .goes-on .result) (t .before .if1 .left)) (sym (second-test t) ∙ not-false (t .stays-clear .result) (c .if2 .left))),
-    )
+    let w = g .before .before .before in
+    record {
+      within = omega (arith, w .before .loop .inv .within);
+      rest =
+          sym (turned w
+          ∙ both-pass _ _ _ (sym (first-test g) ∙ not-false (g .goes-on .result) (t .before .if1 .left))
+          (sym (second-test t) ∙ not-false (t .stays-clear .result) (c .if2 .left)));
+    }
 
 returns-3 : tie.Need-returns-3 Inv-loop μ-loop
 returns-3 c =
     let a = c .before in
     let s = start (entered a) in
-    sym (counted a ∙ sym (a .loop .inv .1) ∙ below-none (test s) (a .loop .input) (c .loop-test .left))
+    sym (counted a ∙ sym (a .loop .inv .rest) ∙ below-none (test s) (a .loop .input) (c .loop-test .left))
 
 pub branches-pass-spec : {M : Type 1} → statement M
 branches-pass-spec =

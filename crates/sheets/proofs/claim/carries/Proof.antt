@@ -20,7 +20,9 @@ use Rattle.sheets.proofs.claim.carries.Tie as tie
 short : (s : tie.Start) → length (s .args .symbols .now) ≤ 864
 short s = omega (arith, s .pre .full, block-short (s .args .code) (s .args .length) (s .pre .askable .code) (s .pre .askable .span))
 
-lent : (c : tie.After-see) → length (take (length (c .before .before .before .args .symbols .now)) (c .see .last .1 .0)) ≡ length (c .before .before .before .args .symbols .now)
+lent : (c : tie.After-see)
+    → length (take (length (c .before .before .before .args .symbols .now)) (c .see .last .1 .0))
+    ≡ length (c .before .before .before .args .symbols .now)
 lent c = let s = c .before .before .before in length-take-le (length (s .args .symbols .now)) (c .see .last .1 .0) (omega (arith, short s, c .see .kept .1 .0))
 
 slice-aggregate-see : tie.Need-slice-aggregate-see

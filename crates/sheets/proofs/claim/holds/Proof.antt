@@ -40,7 +40,8 @@ frame k =
 short : (k : tie.After-shared-slice-known2) → start k .args .length + start k .args .code .memory < 217
 short k = let s = start k in omega (arith, s .pre .askable .span, lawful-out (s .args .code) (s .pre .askable .code) .memory-most)
 
-listed : (k : tie.After-shared-slice-known2) → let s = start k in entriesIn (drop (entriesPlace (s .args .length)) (s .args .sheet .now)) ≡ sheetRead (s .args .length) (s .args .sheet .now) .entries
+listed : (k : tie.After-shared-slice-known2) → let s = start k in
+    entriesIn (drop (entriesPlace (s .args .length)) (s .args .sheet .now)) ≡ sheetRead (s .args .length) (s .args .sheet .now) .entries
 listed k = entriesIn-sheet (start k .args .length) (start k .args .sheet .now) (frame k .size)
 
 -- ---- the answers
@@ -94,7 +95,8 @@ returns c =
     let k = w .before .before .before in
     let s = start k in
     c .tests-pass .ensures
-    ∙ sym (carried-tests (s .args .code) (s .args .length) (seenIn (s .args .seen .now)) (s .args .sheet .now) _ _ (s .pre .askable .code) (bytes k) (form k .ordered) (w .walk .ensures))
+    ∙ sym (carried-tests (s .args .code) (s .args .length) (seenIn (s .args .seen .now)) (s .args .sheet .now) _ _ (s .pre .askable .code) (bytes k)
+    (form k .ordered) (w .walk .ensures))
 
 pub holds-spec : {M : Type 1} → statement M
 holds-spec =

@@ -41,14 +41,17 @@ part-is c = let bytes = start c .args .sheet .now in part-rest bytes (c .entries
 listed : (c : tie.After-entries-place) → entriesIn (part c) ≡ sheetRead (start c .args .length) (start c .args .sheet .now) .entries
 listed c = let s = start c in ap entriesIn (part-is c) ∙ entriesIn-sheet (s .args .length) (s .args .sheet .now) (s .pre .size)
 
-branching : (c : tie.After-entries-place) → let s = start c in Branching (s .args .code) (s .args .length) (s .args .seen .now) (part c) (s .args .states .now) (s .args .metrics .now)
+branching : (c : tie.After-entries-place) → let s = start c in
+    Branching (s .args .code) (s .args .length) (s .args .seen .now) (part c) (s .args .states .now) (s .args .metrics .now)
 branching c =
     let s = start c in
-    subst (λ (l : List ℕ). Branching (s .args .code) (s .args .length) (s .args .seen .now) l (s .args .states .now) (s .args .metrics .now)) (sym (part-is c)) (s .pre .branching)
+    subst (λ (l : List ℕ). Branching (s .args .code) (s .args .length) (s .args .seen .now) l (s .args .states .now) (s .args .metrics .now))
+    (sym (part-is c)) (s .pre .branching)
 
 -- C, as the path was tested
 path-test : (c : tie.After-path-listed) → let p = c .before .before .before in let s = start p in
-    c .path-listed .result ≡ all (onPath (sheetRead (s .args .length) (s .args .sheet .now) .entries) (s .args .states .now) (s .args .metrics .now)) (series (top s + 1) (λ j. j))
+    c .path-listed .result
+    ≡ all (onPath (sheetRead (s .args .length) (s .args .sheet .now) .entries) (s .args .states .now) (s .args .metrics .now)) (series (top s + 1) (λ j. j))
 path-test c =
     let p = c .before .before .before in
     let s = start p in
@@ -92,8 +95,8 @@ unfolding tested
 returns c =
     sym (first-fails _ _ _ (sym (path-test (c .before)) ∙ not-true (c .before .path-listed .result) (c .if1 .taken)))
 
-number32-requires : tie.Need-number32-requires
-number32-requires c κs = search needs
+four-bytes-requires : tie.Need-four-bytes-requires
+four-bytes-requires c κs = search needs
 
 cast-metric : tie.Need-cast-metric
 cast-metric c = search needs
@@ -110,7 +113,8 @@ returns-2 c =
     let n = c .before .before in
     let l = n .before .before in
     sym (second-fails _ _ _ (sym (path-test l) ∙ not-false (l .path-listed .result) (n .before .if1 .left))
-    (ap (eqb (getD (start (l .before .before .before) .args .metrics .now) (top (start (l .before .before .before))) 0)) (sym (n .number32 .ensures)) ∙ ne-eqb _ _ (c .if2 .taken)))
+    (ap (eqb (getD (start (l .before .before .before) .args .metrics .now) (top (start (l .before .before .before))) 0))
+    (sym (n .four-bytes .ensures)) ∙ ne-eqb _ _ (c .if2 .taken)))
 
 entries-pass-requires : tie.Need-entries-pass-requires
 entries-pass-requires c κs = branching (c .before .before .before .before .before .before .before)
@@ -124,9 +128,9 @@ returns-3 c =
     let p = l .before .before .before in
     let s = start p in
     c .entries-pass .ensures
-    ∙ (λ z. all (allPassing (trellis s) (listed p z) (n .number32 .ensures z) (s .args .states .now) (s .args .metrics .now)) (listed p z))
+    ∙ (λ z. all (allPassing (trellis s) (listed p z) (n .four-bytes .ensures z) (s .args .states .now) (s .args .metrics .now)) (listed p z))
     ∙ sym (both-pass _ _ _ (sym (path-test l) ∙ not-false (l .path-listed .result) (n .before .if1 .left))
-    (ap (eqb (getD (s .args .metrics .now) (top s) 0)) (sym (n .number32 .ensures)) ∙ eq-eqb _ _ (d .if2 .left)))
+    (ap (eqb (getD (s .args .metrics .now) (top s) 0)) (sym (n .four-bytes .ensures)) ∙ eq-eqb _ _ (d .if2 .left)))
 
 pub tests-pass-spec : {M : Type 1} → statement M
 tests-pass-spec =
@@ -140,7 +144,7 @@ tests-pass-spec =
     add-top
     path-listed-requires
     returns
-    number32-requires
+    four-bytes-requires
     cast-metric
     mul-if2
     shared-slice-read-if2

@@ -37,22 +37,27 @@ abbrev middle : tie.In-loop Inv-loop μ-loop → ℕ
 middle w = w .before .loop .low + (w .before .loop .high - w .before .loop .low) / 2
 
 -- keys rise with the places
-rises : (w : tie.In-loop Inv-loop μ-loop) (i j : ℕ) → i < j → j < length (start w .args .entries .now) / 8 → keyAt (start w .args .entries .now) i < keyAt (start w .args .entries .now) j
+rises : (w : tie.In-loop Inv-loop μ-loop) (i j : ℕ) → i < j → j < length (start w .args .entries .now) / 8
+    → keyAt (start w .args .entries .now) i < keyAt (start w .args .entries .now) j
 rises w = keys-rise (start w .args .entries .now) (λ i. w .before .before .shared-slice-known .given i .fits) (start w .pre)
 
 -- what the key in the middle says of those below it and above it
-lower : (w : tie.In-loop Inv-loop μ-loop) → keyAt (start w .args .entries .now) (middle w) < start w .args .sought → (i : ℕ) → i < middle w + 1 → Dec (i < middle w)
+lower : (w : tie.In-loop Inv-loop μ-loop) → keyAt (start w .args .entries .now) (middle w) < start w .args .sought → (i : ℕ)
+    → i < middle w + 1 → Dec (i < middle w)
     → keyAt (start w .args .entries .now) i < start w .args .sought
 lower w small i h (yes l) = omega (arith, rises w i (middle w) l (omega (arith, w .before .loop .inv .within, w .loop-test .taken)))
 lower w small i h (no n) = let e : i ≡ middle w = omega arith in subst (λ (j : ℕ). keyAt (start w .args .entries .now) j < start w .args .sought) (sym e) small
 
-upper : (w : tie.In-loop Inv-loop μ-loop) → start w .args .sought < keyAt (start w .args .entries .now) (middle w) → (i : ℕ) → middle w ≤ i → i < length (start w .args .entries .now) / 8 → Dec (middle w < i)
+upper : (w : tie.In-loop Inv-loop μ-loop) → start w .args .sought < keyAt (start w .args .entries .now) (middle w) → (i : ℕ) → middle w ≤ i
+    → i < length (start w .args .entries .now) / 8 → Dec (middle w < i)
     → start w .args .sought < keyAt (start w .args .entries .now) i
 upper w great i h k (yes l) = omega (arith, rises w (middle w) i l k)
-upper w great i h k (no n) = let e : i ≡ middle w = omega arith in subst (λ (j : ℕ). start w .args .sought < keyAt (start w .args .entries .now) j) (sym e) great
+upper w great i h k (no n) = let e : i ≡ middle w = omega arith in
+    subst (λ (j : ℕ). start w .args .sought < keyAt (start w .args .entries .now) j) (sym e) great
 
 -- no key is left where the halves meet
-nowhere : {entries : List ℕ} {sought count low high : ℕ} → Halving entries sought count low high → high ≤ low → (i : ℕ) → i < count → keyAt entries i ≡ sought → Dec (i < low) → ⊥
+nowhere : {entries : List ℕ} {sought count low high : ℕ} → Halving entries sought count low high → high ≤ low → (i : ℕ) → i < count
+    → keyAt entries i ≡ sought → Dec (i < low) → ⊥
 nowhere inv met i h e (yes l) = omega (arith, inv .before i l)
 nowhere inv met i h e (no n) = omega (arith, inv .after i (omega arith) h)
 
@@ -109,7 +114,9 @@ loop-again-2 c =
     let w = k .before in
     let a = w .before in
     let entries = start w .args .entries .now in
-    let great : start w .args .sought < keyAt entries (middle w) = above (keyAt entries (middle w)) (start w .args .sought) (omega (arith, k .key .ensures, c .if2 .left)) (λ e. c .before .if1 .left (k .key .ensures ∙ e)) in
+    let great : start w .args .sought < keyAt entries (middle w) =
+    above (keyAt entries (middle w)) (start w .args .sought) (omega (arith, k .key .ensures, c .if2 .left))
+    (λ e. c .before .if1 .left (k .key .ensures ∙ e)) in
     record {
       order = omega arith;
       within = omega (arith, a .loop .inv .within);

@@ -11,7 +11,9 @@ use Rattle.trellis.proofs.Paths.{node-path}
 use Rattle.sheets.specs.Bytes.{entryAt}
 use Rattle.sheets.specs.Checking.{rising}
 use Rattle.sheets.specs.Steps.{entriesIn, keyOf, listedCost}
-use Rattle.sheets.proofs.Listing.{none, getD-in, length-entriesIn, entriesIn-at, state-small, rising-test}
+use Rattle.trellis.proofs.Listing.{noEntry}
+use Rattle.trellis.proofs.Places.{place-in}
+use Rattle.sheets.proofs.Listing.{length-entriesIn, entriesIn-at, state-small, rising-test}
 use Rattle.sheets.proofs.Costs.{listed-one, listed-none}
 use Rattle.sheets.proofs.entries.listed.Statement.{statement}
 use Rattle.sheets.proofs.entries.listed.Tie as tie
@@ -42,10 +44,12 @@ returns c =
     let at = entriesIn-at bytes place (c .before .if1 .taken) in
     let x : Node = node (s .args .level) (s .args .state) in
     let own : entryAt bytes (8 * place) .node ≡ x =
-    key-node (entryAt bytes (8 * place) .node) x (state-small bytes (λ i. k .shared-slice-known .given i .fits) (8 * place)) (s .pre .2) (f .find .ensures .found (c .before .if1 .taken)) in
+    key-node (entryAt bytes (8 * place) .node) x (state-small bytes (λ i. k .shared-slice-known .given i .fits) (8 * place)) (s .pre .2)
+    (f .find .ensures .found (c .before .if1 .taken)) in
     c .cost .ensures .0
     ∙ ap (λ (e : Entry). e .cost) (sym at)
-    ∙ sym (listed-one (entriesIn bytes) (rising-test (entriesIn bytes) .out (true-in (rising (entriesIn bytes)) (s .pre .0))) (getD-in (entriesIn bytes) place none (omega (arith, length-entriesIn bytes, c .before .if1 .taken))))
+    ∙ sym (listed-one (entriesIn bytes) (rising-test (entriesIn bytes) .out (true-in (rising (entriesIn bytes)) (s .pre .0)))
+    (place-in noEntry (entriesIn bytes) place (omega (arith, length-entriesIn bytes, c .before .if1 .taken))))
     ∙ ap (listedCost (entriesIn bytes)) (ap (λ (e : Entry). e .node) at ∙ own)
 
 returns-2 : tie.Need-returns-2
@@ -54,8 +58,9 @@ returns-2 c =
     let s = f .before .before in
     let bytes : List ℕ = s .args .entries .now in
     let x : Node = node (s .args .level) (s .args .state) in
-    sym (listed-none (entriesIn bytes) none x (λ i h e.
-    f .find .ensures .missing (c .if1 .left) i (omega (arith, length-entriesIn bytes)) (ap keyOf (ap (λ (e : Entry). e .node) (sym (entriesIn-at bytes i (omega (arith, length-entriesIn bytes)))) ∙ e))))
+    sym (listed-none (entriesIn bytes) noEntry x (λ i h e.
+    f .find .ensures .missing (c .if1 .left) i (omega (arith, length-entriesIn bytes))
+    (ap keyOf (ap (λ (e : Entry). e .node) (sym (entriesIn-at bytes i (omega (arith, length-entriesIn bytes)))) ∙ e))))
 
 pub listed-spec : {M : Type 1} → statement M
 listed-spec = tie.close (tie.spec mul-find add-find find-requires cost-requires returns returns-2)

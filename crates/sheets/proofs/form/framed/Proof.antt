@@ -15,8 +15,10 @@ use Rattle.sheets.proofs.form.framed.Statement.{statement}
 use Rattle.sheets.proofs.form.framed.Tie as tie
 
 -- what the bytes decide
-test : (k : tie.After-shared-slice-known) → let s = k .before in Decides (framed (s .args .length) (s .args .sheet .now)) (Framed (s .args .length) (s .args .sheet .now))
-test k = let s = k .before in framed-test (s .args .length) (s .args .sheet .now) (λ i. k .shared-slice-known .given i .fits) (s .pre .0) (omega (arith, s .pre .1))
+test : (k : tie.After-shared-slice-known) → let s = k .before in
+    Decides (framed (s .args .length) (s .args .sheet .now)) (Framed (s .args .length) (s .args .sheet .now))
+test k = let s = k .before in framed-test (s .args .length) (s .args .sheet .now) (λ i. k .shared-slice-known .given i .fits) (s .pre .0)
+    (omega (arith, s .pre .1))
 
 -- ---- the places of the walk, and what is known there
 
@@ -60,10 +62,10 @@ framed-but c spare =
     let g = third e in
     let h = second g in
     record {
-      size = omega (arith, g .if2 .left, place-is h, g .before .number16 .ensures);
-      follow = omega (arith, e .if3 .left, e .before .number32 .ensures, h .if1 .left, place-is h);
-      kind = sym (d .before .number162 .ensures) ∙ d .if4 .left;
-      span = sym (c .before .number163 .ensures) ∙ c .if5 .left;
+      size = omega (arith, g .if2 .left, place-is h, g .before .two-bytes .ensures);
+      follow = omega (arith, e .if3 .left, e .before .four-bytes .ensures, h .if1 .left, place-is h);
+      kind = sym (d .before .two-bytes2 .ensures) ∙ d .if4 .left;
+      span = sym (c .before .two-bytes3 .ensures) ∙ c .if5 .left;
       spare = spare;
     }
 
@@ -75,8 +77,8 @@ entries-place-requires c κs = search needs
 returns : tie.Need-returns
 returns c = let k = c .before .before in sym (decided-no (test k) (λ f. absurd (omega (arith, f .size, c .before .entries-place .ensures))))
 
-number16-requires : tie.Need-number16-requires
-number16-requires c κs = search needs
+two-bytes-requires : tie.Need-two-bytes-requires
+two-bytes-requires c κs = search needs
 
 cast-if2 : tie.Need-cast-if2
 cast-if2 c = search needs
@@ -90,10 +92,10 @@ add-if2 c = search needs
 returns-2 : tie.Need-returns-2
 returns-2 c =
     let h = c .before .before in
-    sym (decided-no (test (first h)) (λ f. c .if2 .taken (omega (arith, f .size, place-is h, c .before .number16 .ensures))))
+    sym (decided-no (test (first h)) (λ f. c .if2 .taken (omega (arith, f .size, place-is h, c .before .two-bytes .ensures))))
 
-number32-requires : tie.Need-number32-requires
-number32-requires c κs = search needs
+four-bytes-requires : tie.Need-four-bytes-requires
+four-bytes-requires c κs = search needs
 
 cast-if3 : tie.Need-cast-if3
 cast-if3 c = search needs
@@ -104,18 +106,18 @@ sub-if3 c = search needs
 returns-3 : tie.Need-returns-3
 returns-3 c =
     let g = c .before .before in
-    sym (decided-no (test (first (second g))) (λ f. c .if3 .taken (omega (arith, f .follow, c .before .number32 .ensures))))
+    sym (decided-no (test (first (second g))) (λ f. c .if3 .taken (omega (arith, f .follow, c .before .four-bytes .ensures))))
 
-number16-requires-2 : tie.Need-number16-requires-2
-number16-requires-2 c κs = search needs
+two-bytes-requires-2 : tie.Need-two-bytes-requires-2
+two-bytes-requires-2 c κs = search needs
 
 returns-4 : tie.Need-returns-4
 returns-4 c =
     let e = c .before .before in
-    sym (decided-no (test (first (second (third e)))) (λ f. c .if4 .taken (c .before .number162 .ensures ∙ f .kind)))
+    sym (decided-no (test (first (second (third e)))) (λ f. c .if4 .taken (c .before .two-bytes2 .ensures ∙ f .kind)))
 
-number16-requires-3 : tie.Need-number16-requires-3
-number16-requires-3 c κs = search needs
+two-bytes-requires-3 : tie.Need-two-bytes-requires-3
+two-bytes-requires-3 c κs = search needs
 
 cast-if5 : tie.Need-cast-if5
 cast-if5 c = search needs
@@ -123,7 +125,7 @@ cast-if5 c = search needs
 returns-5 : tie.Need-returns-5
 returns-5 c =
     let d = c .before .before in
-    sym (decided-no (test (first (second (third (fourth d))))) (λ f. c .if5 .taken (c .before .number163 .ensures ∙ f .span)))
+    sym (decided-no (test (first (second (third (fourth d))))) (λ f. c .if5 .taken (c .before .two-bytes3 .ensures ∙ f .span)))
 
 sub-unused : tie.Need-sub-unused
 sub-unused c = search needs
@@ -171,18 +173,18 @@ framed-spec =
     (tie.spec
     entries-place-requires
     returns
-    number16-requires
+    two-bytes-requires
     cast-if2
     mul-if2
     add-if2
     returns-2
-    number32-requires
+    four-bytes-requires
     cast-if3
     sub-if3
     returns-3
-    number16-requires-2
+    two-bytes-requires-2
     returns-4
-    number16-requires-3
+    two-bytes-requires-3
     cast-if5
     returns-5
     sub-unused

@@ -16,8 +16,10 @@ cast-result c = search needs
 returns : tie.Need-returns
 unfolding sheetRead
 returns c =
-    let s = c .before .before .before in
-    (c .bit .ensures ∙ sym (getD-series (s .args .length) (bitAt (s .args .sheet .now)) (s .args .level) 0 (c .before .if1 .taken)), omega (arith, c .bit .ensures))
+    let s = c .before .before .before in (
+      c .bit .ensures ∙ sym (getD-series (s .args .length) (bitAt (s .args .sheet .now)) (s .args .level) 0 (c .before .if1 .taken)),
+      omega (arith, c .bit .ensures),
+    )
 
 returns-2 : tie.Need-returns-2
 unfolding sheetRead

@@ -3,7 +3,7 @@ use borrow.Author.Tests.{eq-eqb, ne-eqb}
 use mathlib.Core.Path.{_≡_, refl, sym, _∙_}
 use mathlib.Core.List.{List}
 use mathlib.Core.Bool.{Bool}
-use Prim.Native.Nat.{ℕ, _+_, _-_, _≤_, _<_}
+use Prim.Native.Nat.{ℕ, _+_, _-_, _<_}
 use native.Mathlib.Omega.{arith}
 use lib.ListN.{length, getD, drop}
 use Rattle.lists.specs.Lists.{all}
@@ -20,7 +20,7 @@ levels top = series (top + 1) (λ j. j)
 
 abbrev Inv-loop : tie.InvT-loop
 Inv-loop entries states metrics top level₀ level =
-    (level ≤ top + 1) × (all (onPath (entriesIn entries) states metrics) (drop level (levels top)) ≡ all (onPath (entriesIn entries) states metrics) (levels top))
+    all (onPath (entriesIn entries) states metrics) (drop level (levels top)) ≡ all (onPath (entriesIn entries) states metrics) (levels top)
 
 abbrev μ-loop : tie.MeasureT-loop
 μ-loop entries states metrics top level₀ level = top + 1 - level
@@ -42,7 +42,7 @@ there w = getD-series (start w .args .top + 1) (λ j. j) (w .before .loop .level
 -- ---- the answers
 
 loop-holds : tie.Need-loop-holds Inv-loop μ-loop
-loop-holds c = (omega arith, refl)
+loop-holds c = refl
 
 mul-listed : tie.Need-mul-listed Inv-loop μ-loop
 mul-listed c = omega (arith, start c .pre .short, c .loop-test .taken)
@@ -67,7 +67,8 @@ returns c =
     let l = c .before .before in
     let w = l .before .before in
     let a = w .before in
-    sym (sym (a .loop .inv .1) ∙ all-stop (test w) (levels (start w .args .top)) 0 (a .loop .level) (in-list w) (rw (there w, ← l .listed .ensures, ne-eqb _ _ (c .if1 .taken))))
+    sym (sym (a .loop .inv) ∙ all-stop (test w) (levels (start w .args .top)) 0 (a .loop .level) (in-list w)
+    (rw (there w, ← l .listed .ensures, ne-eqb _ _ (c .if1 .taken))))
 
 add-level : tie.Need-add-level Inv-loop μ-loop
 add-level c = let w = c .before .before .before .before in omega (arith, start w .pre .short, w .loop-test .taken)
@@ -79,16 +80,16 @@ loop-again : tie.Need-loop-again Inv-loop μ-loop
 loop-again c =
     let l = c .before .before in
     let w = l .before .before in
-    let a = w .before in (
-      omega (arith, w .loop-test .taken),
-      sym (all-next (test w) (levels (start w .args .top)) 0 (a .loop .level) (in-list w) (rw (there w, ← l .listed .ensures, eq-eqb _ _ (c .if1 .left)))) ∙ a .loop .inv .1,
-    )
+    let a = w .before in
+    sym (all-next (test w) (levels (start w .args .top)) 0 (a .loop .level) (in-list w) (rw (there w, ← l .listed .ensures, eq-eqb _ _ (c .if1 .left))))
+    ∙ a .loop .inv
 
 returns-2 : tie.Need-returns-2 Inv-loop μ-loop
 returns-2 c =
     let a = c .before in
     let s = a .before .before .before .before in
-    sym (sym (a .loop .inv .1) ∙ all-done (onPath (entriesIn (s .args .entries .now)) (s .args .states .now) (s .args .metrics .now)) (levels (s .args .top)) 0 (a .loop .level)
+    sym (sym (a .loop .inv) ∙ all-done (onPath (entriesIn (s .args .entries .now)) (s .args .states .now) (s .args .metrics .now))
+    (levels (s .args .top)) 0 (a .loop .level)
     (omega (arith, length-series (s .args .top + 1) (λ j. j), c .loop-test .left)))
 
 pub path-listed-spec : {M : Type 1} → statement M

@@ -9,20 +9,20 @@ use Rattle.sheets.specs.Bytes.{bytesOf}
 use Rattle.sheets.proofs.put.put_entry.Statement.{statement}
 use Rattle.sheets.proofs.put.put_entry.Tie as tie
 
-put16-requires : tie.Need-put16-requires
-put16-requires c κs = search needs
+put-two-bytes-requires : tie.Need-put-two-bytes-requires
+put-two-bytes-requires c κs = search needs
 
-add-put16 : tie.Need-add-put16
-add-put16 c = search needs
+add-put-two-bytes : tie.Need-add-put-two-bytes
+add-put-two-bytes c = search needs
 
-put16-requires-2 : tie.Need-put16-requires-2
-put16-requires-2 c κs = search needs
+put-two-bytes-requires-2 : tie.Need-put-two-bytes-requires-2
+put-two-bytes-requires-2 c κs = search needs
 
-add-put32 : tie.Need-add-put32
-add-put32 c = search needs
+add-put-four-bytes : tie.Need-add-put-four-bytes
+add-put-four-bytes c = search needs
 
-put32-requires : tie.Need-put32-requires
-put32-requires c κs = search needs
+put-four-bytes-requires : tie.Need-put-four-bytes-requires
+put-four-bytes-requires c κs = search needs
 
 same-length : tie.Need-same-length
 same-length c = search needs
@@ -38,19 +38,20 @@ returns c =
     let level : List ℕ = bytesOf 2 (s .args .level) in
     let state : List ℕ = bytesOf 2 (s .args .state) in
     let cost : List ℕ = bytesOf 4 (s .args .cost) in
-    third .put32 .ensures
+    third .put-four-bytes .ensures
     ∙ ap (λ (l : List ℕ). sets l (at + 4) cost)
-    (second .put162 .ensures ∙ ap (λ (l : List ℕ). sets l (at + 2) state) (first .put16 .ensures) ∙ sym (sets-append (s .args .out .now) level state at))
+    (second .put-two-bytes2 .ensures ∙ ap (λ (l : List ℕ). sets l (at + 2) state) (first .put-two-bytes .ensures)
+    ∙ sym (sets-append (s .args .out .now) level state at))
     ∙ sym (sets-append (s .args .out .now) (level ++ state) cost at)
 
 pub put-entry-spec : {M : Type 1} → statement M
 put-entry-spec =
     tie.close
     (tie.spec
-    put16-requires
-    add-put16
-    put16-requires-2
-    add-put32
-    put32-requires
+    put-two-bytes-requires
+    add-put-two-bytes
+    put-two-bytes-requires-2
+    add-put-four-bytes
+    put-four-bytes-requires
     same-length
     returns)

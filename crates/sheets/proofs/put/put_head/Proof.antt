@@ -13,32 +13,32 @@ use Rattle.sheets.proofs.put.put_head.Tie as tie
 sheet-size-requires : tie.Need-sheet-size-requires
 sheet-size-requires c κs = search needs
 
-sub-put32 : tie.Need-sub-put32
-sub-put32 c = search needs
+sub-put-four-bytes : tie.Need-sub-put-four-bytes
+sub-put-four-bytes c = search needs
 
-cast-put32 : tie.Need-cast-put32
-cast-put32 c = search needs
+cast-put-four-bytes : tie.Need-cast-put-four-bytes
+cast-put-four-bytes c = search needs
 
-put32-requires : tie.Need-put32-requires
-put32-requires c κs = search needs
+put-four-bytes-requires : tie.Need-put-four-bytes-requires
+put-four-bytes-requires c κs = search needs
 
-put16-requires : tie.Need-put16-requires
-put16-requires c κs = search needs
+put-two-bytes-requires : tie.Need-put-two-bytes-requires
+put-two-bytes-requires c κs = search needs
 
-cast-put16 : tie.Need-cast-put16
-cast-put16 c = search needs
+cast-put-two-bytes : tie.Need-cast-put-two-bytes
+cast-put-two-bytes c = search needs
 
-put16-requires-2 : tie.Need-put16-requires-2
-put16-requires-2 c κs = search needs
+put-two-bytes-requires-2 : tie.Need-put-two-bytes-requires-2
+put-two-bytes-requires-2 c κs = search needs
 
-put32-requires-2 : tie.Need-put32-requires-2
-put32-requires-2 c κs = search needs
+put-four-bytes-requires-2 : tie.Need-put-four-bytes-requires-2
+put-four-bytes-requires-2 c κs = search needs
 
-cast-put16-2 : tie.Need-cast-put16-2
-cast-put16-2 c = search needs
+cast-put-two-bytes-2 : tie.Need-cast-put-two-bytes-2
+cast-put-two-bytes-2 c = search needs
 
-put16-requires-3 : tie.Need-put16-requires-3
-put16-requires-3 c κs = search needs
+put-two-bytes-requires-3 : tie.Need-put-two-bytes-requires-3
+put-two-bytes-requires-3 c κs = search needs
 
 same-length : tie.Need-same-length
 same-length c = search needs
@@ -59,13 +59,14 @@ returns c =
     let span : List ℕ = bytesOf 2 (s .args .length) in
     let metric : List ℕ = bytesOf 4 (s .args .metric) in
     let count : List ℕ = bytesOf 2 (s .args .count) in
-    fifth .put163 .ensures
+    fifth .put-two-bytes3 .ensures
     ∙ ap (λ (l : List ℕ). sets l 12 count)
-    (fourth .put322 .ensures
+    (fourth .put-four-bytes2 .ensures
     ∙ ap (λ (l : List ℕ). sets l 8 metric)
-    (third .put162 .ensures
+    (third .put-two-bytes2 .ensures
     ∙ ap (λ (l : List ℕ). sets l 6 span)
-    (second .put16 .ensures ∙ ap (λ (l : List ℕ). sets l 4 sort) (first .put32 .ensures ∙ ap (λ (k : ℕ). sets out 0 (bytesOf 4 (k - 4))) (z .sheet-size .ensures)))
+    (second .put-two-bytes .ensures ∙ ap (λ (l : List ℕ). sets l 4 sort)
+    (first .put-four-bytes .ensures ∙ ap (λ (k : ℕ). sets out 0 (bytesOf 4 (k - 4))) (z .sheet-size .ensures)))
     ∙ sym (sets-append (sets out 0 size) sort span 4))
     ∙ sym (sets-append (sets out 0 size) (sort ++ span) metric 4))
     ∙ sym (sets-append (sets out 0 size) (sort ++ span ++ metric) count 4)
@@ -76,14 +77,14 @@ put-head-spec =
     tie.close
     (tie.spec
     sheet-size-requires
-    sub-put32
-    cast-put32
-    put32-requires
-    put16-requires
-    cast-put16
-    put16-requires-2
-    put32-requires-2
-    cast-put16-2
-    put16-requires-3
+    sub-put-four-bytes
+    cast-put-four-bytes
+    put-four-bytes-requires
+    put-two-bytes-requires
+    cast-put-two-bytes
+    put-two-bytes-requires-2
+    put-four-bytes-requires-2
+    cast-put-two-bytes-2
+    put-two-bytes-requires-3
     same-length
     returns)

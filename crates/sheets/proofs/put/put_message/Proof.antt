@@ -2,7 +2,7 @@
 -- Assumes nothing.
 use mathlib.Core.Path.{_≡_, refl, sym, _∙_}
 use mathlib.Core.List.{List}
-use Prim.Native.Nat.{ℕ, _+_, _-_, _≤_}
+use Prim.Native.Nat.{ℕ, _+_, _-_}
 use native.Mathlib.Omega.{arith}
 use lib.ListN.{length, getD, drop, length-set}
 use lib.Seq.{sets}
@@ -12,10 +12,13 @@ use Rattle.sheets.proofs.Series.{length-series, getD-series}
 use Rattle.sheets.proofs.put.put_message.Statement.{statement}
 use Rattle.sheets.proofs.put.put_message.Tie as tie
 
+-- the bytes before j are put
+record Putting (bytes first out : List ℕ) (j : ℕ) : Type 0 where
+  kept : length out ≡ length first
+  rest : sets out (messagePlace + j) (drop j bytes) ≡ sets first messagePlace bytes
+
 abbrev Inv-loop : tie.InvT-loop
-Inv-loop out₀ message size j₀ out j =
-    (j ≤ size) × (length out ≡ length out₀) ×
-    (sets out (messagePlace + j) (drop j (messageBytes (length message) message)) ≡ sets out₀ messagePlace (messageBytes (length message) message))
+Inv-loop out₀ message size j₀ out j = Putting (messageBytes (length message) message) out₀ out j
 
 abbrev μ-loop : tie.MeasureT-loop
 μ-loop out₀ message size j₀ out j = size - j
@@ -36,7 +39,8 @@ written : (c : tie.After-octet Inv-loop μ-loop) → let a = c .before .before i
 written c =
     let a = c .before .before in
     let s = start a in
-    c .octet .ensures ∙ sym (getD-series (messageSize (length (s .args .message .now))) (octet (s .args .message .now)) (a .loop .j) 0 (c .before .loop-test .taken))
+    c .octet .ensures ∙ sym (getD-series (messageSize (length (s .args .message .now))) (octet (s .args .message .now)) (a .loop .j) 0
+    (c .before .loop-test .taken))
 
 -- ---- the answers
 
@@ -44,7 +48,7 @@ add-size : tie.Need-add-size Inv-loop μ-loop
 add-size c = omega (arith, c .before .before .pre .1)
 
 loop-holds : tie.Need-loop-holds Inv-loop μ-loop
-loop-holds c = (omega arith, refl, refl)
+loop-holds c = record { kept = refl; rest = refl }
 
 octet-requires : tie.Need-octet-requires Inv-loop μ-loop
 octet-requires c κs = let s = start (c .before) in (s .pre .0, omega (arith, s .pre .1, c .loop-test .taken))
@@ -53,7 +57,7 @@ add-out : tie.Need-add-out Inv-loop μ-loop
 add-out c = let s = start (c .before .before) in omega (arith, s .pre .1, c .before .loop-test .taken)
 
 slice-write-out : tie.Need-slice-write-out Inv-loop μ-loop
-slice-write-out c = let a = c .before .before in omega (arith, start a .pre .2, a .loop .inv .1, c .before .loop-test .taken)
+slice-write-out c = let a = c .before .before in omega (arith, start a .pre .2, a .loop .inv .kept, c .before .loop-test .taken)
 
 add-j : tie.Need-add-j Inv-loop μ-loop
 add-j c = let s = start (c .before .before) in omega (arith, s .pre .1, c .before .loop-test .taken)
@@ -64,20 +68,18 @@ loop-less c = omega arith
 loop-again : tie.Need-loop-again Inv-loop μ-loop
 loop-again c =
     let a = c .before .before in
-    let s = start a in (
-      omega (arith, c .before .loop-test .taken),
-      simp length-set (a .loop .inv .1),
-      rw (written c) (sym (sets-next (a .loop .out) (bytes s) messagePlace (a .loop .j) 0 (omega (arith, bytes-length s, c .before .loop-test .taken))) ∙ a .loop .inv .2),
-    )
+    let s = start a in
+    let next = sets-next (a .loop .out) (bytes s) messagePlace (a .loop .j) 0 (omega (arith, bytes-length s, c .before .loop-test .taken)) in
+    record { kept = simp length-set (a .loop .inv .kept); rest = rw (written c) (sym next ∙ a .loop .inv .rest) }
 
 same-length : tie.Need-same-length Inv-loop μ-loop
-same-length c = c .before .loop .inv .1
+same-length c = c .before .loop .inv .kept
 
 returns : tie.Need-returns Inv-loop μ-loop
 returns c =
     let a = c .before in
     let s = start a in
-    sym (sets-done (a .loop .out) (bytes s) messagePlace (a .loop .j) (omega (arith, bytes-length s, c .loop-test .left))) ∙ a .loop .inv .2
+    sym (sets-done (a .loop .out) (bytes s) messagePlace (a .loop .j) (omega (arith, bytes-length s, c .loop-test .left))) ∙ a .loop .inv .rest
 
 pub put-message-spec : {M : Type 1} → statement M
 put-message-spec =

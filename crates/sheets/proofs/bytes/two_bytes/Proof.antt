@@ -1,11 +1,11 @@
--- `bytes::number16` meets its contract: two bytes, the lower first. Assumes nothing.
+-- `bytes::two_bytes` meets its contract: two bytes, the lower first. Assumes nothing.
 use borrow.Author.Needs.{needs}
 use Prim.Native.Nat.{_+_}
 use native.Mathlib.Numerals.{add-one}
 use native.Mathlib.Omega.{arith}
 use Rattle.sheets.specs.Bytes.{numberAt}
-use Rattle.sheets.proofs.bytes.number16.Statement.{statement}
-use Rattle.sheets.proofs.bytes.number16.Tie as tie
+use Rattle.sheets.proofs.bytes.two_bytes.Statement.{statement}
+use Rattle.sheets.proofs.bytes.two_bytes.Tie as tie
 
 shared-slice-read-result : tie.Need-shared-slice-read-result
 shared-slice-read-result c = search needs
@@ -34,8 +34,8 @@ returns : tie.Need-returns
 unfolding numberAt
 returns c = rw add-one (omega arith)
 
-pub number16-spec : {M : Type 1} → statement M
-number16-spec =
+pub two-bytes-spec : {M : Type 1} → statement M
+two-bytes-spec =
     tie.close
     (tie.spec
     shared-slice-read-result

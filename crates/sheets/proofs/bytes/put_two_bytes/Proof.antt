@@ -1,4 +1,4 @@
--- `bytes::put16` meets its contract: the lower byte first. Assumes nothing.
+-- `bytes::put_two_bytes` meets its contract: the lower byte first. Assumes nothing.
 use borrow.Author.Needs.{needs}
 use mathlib.Core.Path.{_≡_, ap₂}
 use Prim.Native.Nat.{ℕ, _/_, _%_}
@@ -6,8 +6,8 @@ use native.Mathlib.Numerals.{add-one}
 use native.Mathlib.Omega.{arith}
 use lib.ListN.{set, length-set}
 use Rattle.sheets.specs.Bytes.{bytesOf}
-use Rattle.sheets.proofs.bytes.put16.Statement.{statement}
-use Rattle.sheets.proofs.bytes.put16.Tie as tie
+use Rattle.sheets.proofs.bytes.put_two_bytes.Statement.{statement}
+use Rattle.sheets.proofs.bytes.put_two_bytes.Tie as tie
 
 cast-out : tie.Need-cast-out
 cast-out c = search needs
@@ -34,7 +34,7 @@ returns c =
     let high : n / 256 ≡ n / 256 % 256 = omega arith in
     ap₂ (λ (i x : ℕ). set (set (c .args .out .now) (c .args .at) (n % 256)) i x) (add-one (c .args .at)) high
 
-pub put16-spec : {M : Type 1} → statement M
-put16-spec =
+pub put-two-bytes-spec : {M : Type 1} → statement M
+put-two-bytes-spec =
     tie.close
     (tie.spec cast-out slice-write-out cast-out-2 add-out slice-write-out-2 same-length returns)
