@@ -58,6 +58,7 @@ module _ (c : Code) (l : ℕ) (symbols : List ℤ) (room allowance words : ℕ) 
 
   -- what it hands back of an answer w
   module _ {w : List ℕ} (a : Answers c l symbols room allowance words message w) where
+    -- the message has L bits
     length-answer : length w ≡ l
     unfolding messages
     length-answer = words-out 2 l (a .answerable .alone .member) .length
@@ -65,19 +66,23 @@ module _ (c : Code) (l : ℕ) (symbols : List ℤ) (room allowance words : ℕ) 
     abbrev exit : List ℕ
     exit = w ++ drop l message
 
+    -- and stands in front of its buffer
     front : take l exit ≡ w
     front = take-at w (drop l message) l length-answer
 
+    -- the sheet's own bytes
     abbrev bytes : List ℕ
     bytes = sheetBytes l (honestSheet t w)
 
+    -- so the whole answer is known
     whole : answer .number ≡ 0 → answer ≡ handed 0 (metricOf t w) (steps t) (length bytes) exit (bytes ++ drop (length bytes) sheet)
     unfolding written
     whole z = go (decLt (length sheet) (length bytes))
       where
         given : answer ≡ written bytes message sheet (decoder.handed 0 (metricOf t w) (steps t) exit)
         given =
-            sym (answered-sheeting c l symbols room allowance words message sheet (metricOf t w) (steps t) exit (sym (answers-in c l symbols room allowance words message a)))
+            sym (answered-sheeting c l symbols room allowance words message sheet (metricOf t w) (steps t) exit
+            (sym (answers-in c l symbols room allowance words message a)))
             ∙ ap (λ (v : List ℕ). written (sheetBytes l (honestSheet t v)) message sheet (decoder.handed 0 (metricOf t w) (steps t) exit)) front
 
         go : Dec (length sheet < length bytes) → answer ≡ handed 0 (metricOf t w) (steps t) (length bytes) exit (bytes ++ drop (length bytes) sheet)
@@ -110,7 +115,9 @@ module _ (c : Code) (l : ℕ) (symbols : List ℤ) (room allowance words : ℕ) 
       go d =
           let w : List ℕ = d .word in
           let a = d .answers in
-          subst (λ (r : Sheeting). checking c l symbols (take (r .size) (r .sheet)) buffer ≡ check.handed 0 (r .metric) (take l (r .message) ++ drop l buffer)) (sym (whole a z))
+          subst
+          (λ (r : Sheeting). checking c l symbols (take (r .size) (r .sheet)) buffer ≡ check.handed 0 (r .metric) (take l (r .message) ++ drop l buffer))
+          (sym (whole a z))
           (ap (λ (s : List ℕ). checking c l symbols s buffer) (take-at (bytes a) (drop (length (bytes a)) sheet) (length (bytes a)) refl)
           ∙ honest-accepted c l symbols w buffer (answerable a h buffer k)
           ∙ (λ i. check.handed 0 (sym (alone-paid (a .answerable .alone)) i) (sym (front a) i ++ drop l buffer)))

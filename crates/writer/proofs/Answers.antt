@@ -58,18 +58,23 @@ module _ (t : Trellis) (m : ℕ) {rows : List Row} (H : Holds (honest t m) rows)
       let h : d < length (honest t m) = omega arith in
       rw (L .equal h, listed-from n (suc d) (nextClosed (nodeAt rows k) rows) (honest-next t m H L h) (omega arith)) (sym (drop-cons (honest t m) d noEntry h))
 
+  -- and they can be put: the rows are there, and no cost is above the metric
   listable-from : (n d k : ℕ) → Listing (honest t m) rows d k → d + n ≡ length (honest t m) → Listable rows n k
   unfolding Listable
   listable-from zero d k L e = tt
   listable-from (suc n) d k L e =
       let h : d < length (honest t m) = omega arith in
-      let due = honest-out t m (place-in noEntry (honest t m) d h) in
-      (L .within h, omega (arith, ap (λ (x : Entry). x .cost) (L .equal h), due .within), listable-from n (suc d) (nextClosed (nodeAt rows k) rows) (honest-next t m H L h) (omega arith))
+      let due = honest-out t m (place-in noEntry (honest t m) d h) in (
+        L .within h,
+        omega (arith, ap (λ (x : Entry). x .cost) (L .equal h), due .within),
+        listable-from n (suc d) (nextClosed (nodeAt rows k) rows) (honest-next t m H L h) (omega arith),
+      )
 
   -- all of them are the honest sheet
   pub listed-honest : (n : ℕ) → n ≡ length (honest t m) → listed rows n 0 ≡ honest t m
   listed-honest n e = listed-from n 0 0 (honest-start t m H) (omega arith)
 
+  -- and all of them can be put
   pub listable-honest : (n : ℕ) → n ≡ length (honest t m) → Listable rows n 0
   listable-honest n e = listable-from n 0 0 (honest-start t m H) (omega arith)
 
@@ -83,6 +88,7 @@ module _ (c : Code) (l : ℕ) (symbols : List ℤ) {room allowance : ℕ} {first
   law : Lawful t
   law = trellis-lawful c l (view symbols)
 
+  -- what the search found is right
   right : Right t cap (searched t cap room allowance .rows) metric done (A .count) row
   right = searched-right law cap room allowance (omega arith) metric done (A .count) row (A .outcome)
 
@@ -97,15 +103,18 @@ module _ (c : Code) (l : ℕ) (symbols : List ℤ) {room allowance : ℕ} {first
   abbrev pub word : List ℕ
   word = messageOf t way
 
+  -- L bits
   word-whole : Word 2 l word
   unfolding messages
   word-whole =
       let there : Ends t (terminal t) way = rw (A .shows .rows) (right .traced .there) in
       words-out 2 l (messageOf-in t (there .allowed) (there .level))
 
+  -- for the part that is lent on: its length
   pub length-word : length word ≡ l
   length-word = word-whole .length
 
+  -- and that it is bits
   pub word-all : all isBit word ≡ true
   word-all = true-out (all isBit word) (all-in isBit word (λ b m. let h : b < 2 = word-whole .fits b m in le→leb b 1 (omega arith)))
 
@@ -113,9 +122,11 @@ module _ (c : Code) (l : ℕ) (symbols : List ℤ) {room allowance : ℕ} {first
   pub entries-count : done + 1 ≡ length (honest t (leastMetric t))
   entries-count = omega (arith, length-honest law, right .ended)
 
+  -- so the count fits its two bytes
   pub entries-few : done + 1 ≤ room
   entries-few =
-      omega (arith, length-holds law (answer-left .holds), right .ended, length-set (rowsOf work rows) row (shut (rowAt (rowsOf work rows) row)), length-rowsOf work rows, A .most)
+      let same = length-set (rowsOf work rows) row (shut (rowAt (rowsOf work rows) row)) in
+      omega (arith, length-holds law (answer-left .holds), right .ended, same, length-rowsOf work rows, A .most)
 
   -- ---- the message is written
 
@@ -136,16 +147,20 @@ module _ (c : Code) (l : ℕ) (symbols : List ℤ) {room allowance : ℕ} {first
 
     -- ---- the sheet is put, from any memory that shows the rows with the terminal's closed
 
-    module _ {shown : List Row} (c′ : shown ≡ closed (rowsOf work rows) row) where
+    module _ {shown : List Row} (as-closed : shown ≡ closed (rowsOf work rows) row) where
+      -- its closed rows hold the honest entries
       shown-holds : Holds (honest t (leastMetric t)) shown
-      shown-holds = rw c′ (answer-left .holds)
+      shown-holds = rw as-closed (answer-left .holds)
 
+      -- the costs fit four bytes
       light : leastMetric t < 2 ^ 32
       light = omega (arith, A .light, right .least)
 
+      -- for the writing: the entries can be put
       pub shown-listable : Listable shown (done + 1) 0
       shown-listable = listable-honest t (leastMetric t) shown-holds light (done + 1) entries-count
 
+      -- and what is put is the honest sheet
       pub answer-sheet : (bits : List ℕ) → bits ≡ take l exit
           → sheetBytes (length bits) (sheetOf metric bits (listed shown (done + 1) 0)) ≡ sheetBytes l (honestSheet t (take l exit))
       answer-sheet bits b =

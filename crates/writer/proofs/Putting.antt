@@ -10,6 +10,7 @@ use Rattle.trellis.specs.Search.{Row, entryAt, nodeAt, costAt, nextClosed}
 use Rattle.sheets.specs.Bytes.{bytesOf, entryBytes}
 use Rattle.writer.specs.Work.{listed, Listable}
 
+-- as many as were asked for
 pub length-listed : (rows : List Row) (n k : ℕ) → length (listed rows n k) ≡ n
 unfolding listed
 length-listed rows zero k = refl
@@ -22,6 +23,7 @@ pub record Entries (rows : List Row) (count place : ℕ) (first sheet : List ℕ
   pub there : Listable rows left k
   pub rest : sets sheet at (flatMap entryBytes (listed rows left k)) ≡ sets first place (flatMap entryBytes (listed rows count 0))
 
+-- for the loop's start: none is put
 pub entries-start : (rows : List Row) (count place : ℕ) (first : List ℕ) → Listable rows count 0 → Entries rows count place first first 0 place count
 entries-start rows count place first h = record { kept = refl; sized = refl; there = h; rest = refl }
 
@@ -32,6 +34,7 @@ module _ {rows : List Row} {count place : ℕ} {first sheet : List ℕ} {k at : 
   entries-here {left = zero} p h = absurd (omega arith)
   entries-here {left = suc left} p h = (p .there .0, p .there .1)
 
+  -- for the next turn: one is put
   pub entries-next : {left : ℕ} → Entries rows count place first sheet k at left → 0 < left
       → (after : List ℕ) → after ≡ sets sheet at (entryBytes (entryAt rows k)) → (next : ℕ) → next ≡ nextClosed (nodeAt rows k) rows
       → Entries rows count place first after next (at + 8) (left - 1)
@@ -48,6 +51,7 @@ module _ {rows : List Row} {count place : ℕ} {first sheet : List ℕ} {k at : 
         rest = ap (λ (l : List ℕ). sets l (at + 8) more) e ∙ sym (sets-append sheet (entryBytes (entryAt rows k)) more at) ∙ p .rest;
       })
 
+-- for the loop's end: none is left
 pub entries-done : {rows : List Row} {count place : ℕ} {first sheet : List ℕ} {k at left : ℕ} → Entries rows count place first sheet k at left → left ≤ 0
     → sheet ≡ sets first place (flatMap entryBytes (listed rows count 0))
 unfolding listed flatMap

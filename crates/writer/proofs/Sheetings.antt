@@ -45,12 +45,12 @@ module _ (c : Code) (l : ℕ) (symbols : List ℤ) (room allowance words : ℕ) 
     answered-sheeting = rw (← h)
 
     module _ (bytes : ℕ) (size : bytes ≡ length own) where
-      -- 9
+      -- 9: the buffer is too short for the sheet
       pub sheeting-short : length sheet < bytes → told (NoSheetRoom bytes) message sheet ≡ sheeting c l symbols room allowance words message sheet
       unfolding told written
       sheeting-short low = rw (← answered-sheeting, lt-ltb (length sheet) (length own) (omega arith), size)
 
-      -- 0
+      -- 0: the sheet is in front of its buffer
       pub sheeting-done : bytes ≤ length sheet → (after : List ℕ) → after ≡ sets sheet 0 own
           → told (Done metric steps bytes) exit after ≡ sheeting c l symbols room allowance words message sheet
       unfolding told written

@@ -16,7 +16,8 @@ use Rattle.sheets.specs.Checking.{honestSheet}
 use Rattle.writer.specs.declared.writer.DecodedSheet.{DecodedSheet}
 use Rattle.writer.specs.declared.writer.DecodedSheet.the-variants.{Done, BadCode, BadSize, NoRoom, NoAllowance, Tied, NoSheetRoom}
 
--- what is handed back: the paper's number, metric and steps, the sheet's length or the size needed, and both buffers as they are then
+-- What is handed back: the paper's number ('No.'), metric, steps and 'its length too' or 'the size needed', and both buffers as they are
+-- then.
 pub record Sheeting : Type 0 where
   pub number : ℕ
   pub metric : ℕ
@@ -25,10 +26,18 @@ pub record Sheeting : Type 0 where
   pub message : List ℕ
   pub sheet : List ℕ
 
+-- the same, part by part
 abbrev pub handed : (number metric steps size : ℕ) (message sheet : List ℕ) → Sheeting
-handed number metric steps size message sheet = record { number = number; metric = metric; steps = steps; size = size; message = message; sheet = sheet }
+handed number metric steps size message sheet = record {
+  number = number;
+  metric = metric;
+  steps = steps;
+  size = size;
+  message = message;
+  sheet = sheet;
+}
 
--- the paper's number and values for each case of the answer
+-- 'For each case of an enum answer, a definition gives this paper's number and values'; 'Values not named in a row are 0.'
 unfoldable pub told : DecodedSheet → List ℕ → List ℕ → Sheeting
 told (Done metric steps bytes) message sheet = handed 0 metric steps bytes message sheet
 told BadCode message sheet = handed 1 0 0 0 message sheet
@@ -38,19 +47,20 @@ told (NoAllowance steps) message sheet = handed 4 0 steps 0 message sheet
 told (Tied metric steps) message sheet = handed 5 metric steps 0 message sheet
 told (NoSheetRoom bytes) message sheet = handed 9 0 0 bytes message sheet
 
--- the bytes of the honest sheet of what a decode answered
+-- the bytes of 'the honest sheet' of what a decode answered, its message the first L bytes of the buffer
 unfoldable pub honestBytes : Code → ℕ → List ℤ → Decoding → List ℕ
 honestBytes c l symbols d = sheetBytes l (honestSheet (trellisOf c l (view symbols)) (take l (d .message)))
 
--- where `decode` answers: 9 'exactly when it would answer but the sheet buffer is shorter than the sheet', with the size needed and both
--- buffers untouched; else the message, and the sheet in front of its buffer
+-- Where `decode` answers: 9 'exactly when it would answer but the sheet buffer is shorter than the sheet', with 'the size needed' and
+-- both buffers untouched. Else it 'writes the honest sheet described below and gives its length too'; its buffer's 'excess is untouched'.
 unfoldable pub written : (bytes message sheet : List ℕ) → Decoding → Sheeting
 written bytes message sheet d =
     cond (ltb (length sheet) (length bytes)) (handed 9 0 0 (length bytes) message sheet)
     (handed 0 (d .metric) (d .steps) (length bytes) (d .message) (bytes ++ drop (length bytes) sheet))
 
--- everything of `decode`, and then the sheet
-unfoldable pub sheeting : Code → ℕ → List ℤ → ℕ → ℕ → ℕ → List ℕ → List ℕ → Sheeting
+-- 'They are tested in the order 1, 2, .. then 3, 4, 5, then 9': everything of `decode`, and then the sheet. 'On any refusal every output
+-- buffer is untouched.'
+unfoldable pub sheeting : (c : Code) (l : ℕ) (symbols : List ℤ) (room allowance words : ℕ) (message sheet : List ℕ) → Sheeting
 sheeting c l symbols room allowance words message sheet =
     let d : Decoding = decoding c l symbols room allowance words message in
     cond (eqb (d .number) 0) (written (honestBytes c l symbols d) message sheet d)

@@ -14,7 +14,8 @@ ghost use Rattle.writer.specs.Work.{listed, Listable};
 // Puts so many entries from a place on: the origin's row, and each time the closed row whose node comes next.
 pub fn put_entries(work: &[u64], n: usize, count: usize, place: usize, sheet: &mut [u8])
     requires { ⌜ Stored (now work) n ⌝ ∗ ⌜ Listable (rowsOf (now work) n) count 0 ⌝ ∗ ⌜ place + 8 * count ≤ length (now sheet) ⌝ }
-    ensures { λ _. ⌜ now (sheet .exit) ≡ sets (now (sheet .entry)) place (flatMap entryBytes (listed (rowsOf (now (work .entry)) n) count 0)) ⌝ }
+    ensures { λ _. ⌜ now (sheet .exit)
+        ≡ sets (now (sheet .entry)) place (flatMap entryBytes (listed (rowsOf (now (work .entry)) n) count 0)) ⌝ }
 {
     let mut k = 0usize;
     let mut at = place;

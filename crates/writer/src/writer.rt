@@ -45,7 +45,8 @@ pub enum DecodedSheet {
     },
 }
 
-// Decodes a block and writes the honest sheet of its answer. On a refusal both buffers are untouched.
+// Decodes a block and writes the honest sheet of its answer: E + 1 entries, the closed rows and the terminal's. On a refusal both
+// buffers are untouched. The working memory may be overwritten; no answer depends on what it held.
 pub fn decode_sheet(
     code: Code,
     length: usize,
@@ -56,7 +57,10 @@ pub fn decode_sheet(
     message: &mut [u8],
     sheet: &mut [u8],
 ) -> DecodedSheet
-    ensures { λ r. do ⌜ told r (now (message .exit)) (now (sheet .exit)) ≡ sheeting code length (now (symbols .entry)) room allowance (← ⟦work.len()⟧ .entry) (now (message .entry)) (now (sheet .entry)) ⌝ }
+    ensures { λ r. do
+      words ← ⟦work.len()⟧ .entry
+      ⌜ told r (now (message .exit)) (now (sheet .exit))
+          ≡ sheeting code length (now (symbols .entry)) room allowance words (now (message .entry)) (now (sheet .entry)) ⌝ }
 {
     let settled = settle(code, length, symbols, room, allowance, work, message.len());
     let decoded = settled.decoded;
@@ -106,8 +110,11 @@ fn refusal(decoded: Decoded) -> DecodedSheet
 
 // Writes a sheet over the front of the buffer: its metric, its message, and so many entries from the closed rows.
 fn put_sheet(metric: u32, count: usize, bits: &[u8], work: &[u64], rows: usize, sheet: &mut [u8])
-    requires { ⌜ all isBit (now bits) ≡ true ⌝ ∗ ⌜ Puttable (length (now bits)) count (now sheet) ⌝ ∗ ⌜ Stored (now work) rows ⌝ ∗ ⌜ Listable (rowsOf (now work) rows) count 0 ⌝ }
-    ensures { λ _. ⌜ now (sheet .exit) ≡ sets (now (sheet .entry)) 0 (sheetBytes (length (now (bits .entry))) (sheetOf metric (now (bits .entry)) (listed (rowsOf (now (work .entry)) rows) count 0))) ⌝ }
+    requires { ⌜ all isBit (now bits) ≡ true ⌝ ∗ ⌜ Puttable (length (now bits)) count (now sheet) ⌝ }
+    requires { ⌜ Stored (now work) rows ⌝ ∗ ⌜ Listable (rowsOf (now work) rows) count 0 ⌝ }
+    ensures { λ _. ⌜ now (sheet .exit)
+        ≡ sets (now (sheet .entry)) 0 (sheetBytes (length (now (bits .entry)))
+        (sheetOf metric (now (bits .entry)) (listed (rowsOf (now (work .entry)) rows) count 0))) ⌝ }
 {
     let span = bits.len();
     put_head(&mut *sheet, span, metric, count);

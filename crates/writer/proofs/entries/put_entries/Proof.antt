@@ -25,7 +25,8 @@ abbrev entry : tie.At-loop Inv-loop μ-loop → tie.Start Inv-loop μ-loop
 entry a = a .before .before .before
 
 -- row k is there, and its cost fits
-there : (w : tie.In-loop Inv-loop μ-loop) → let s = entry (w .before) in let rows = rowsOf (s .args .work .now) (s .args .n) in (w .before .loop .k < length rows) × (costAt rows (w .before .loop .k) < 2 ^ 32)
+there : (w : tie.In-loop Inv-loop μ-loop) → let s = entry (w .before) in let rows = rowsOf (s .args .work .now) (s .args .n) in
+    (w .before .loop .k < length rows) × (costAt rows (w .before .loop .k) < 2 ^ 32)
 there w = entries-here (w .before .loop .inv) (w .loop-test .taken)
 
 within : (w : tie.In-loop Inv-loop μ-loop) → w .before .loop .k < entry (w .before) .args .n
@@ -38,7 +39,9 @@ fits w = let a = w .before in omega (arith, a .loop .inv .kept, a .loop .inv .si
 -- ---- the answers
 
 loop-holds : tie.Need-loop-holds Inv-loop μ-loop
-loop-holds c = let s = c .before .before in entries-start (rowsOf (s .args .work .now) (s .args .n)) (s .args .count) (s .args .place) (s .args .sheet .now) (s .pre .1 .0)
+loop-holds c =
+    let s = c .before .before in
+    entries-start (rowsOf (s .args .work .now) (s .args .n)) (s .args .count) (s .args .place) (s .args .sheet .now) (s .pre .1 .0)
 
 row-requires : tie.Need-row-requires Inv-loop μ-loop
 row-requires c κs = (entry (c .before) .pre .0, within c)

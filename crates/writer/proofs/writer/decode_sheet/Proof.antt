@@ -23,7 +23,8 @@ use Rattle.search.proofs.Halting.{answer-traceable}
 use Rattle.search.proofs.Refusals.{refused-tag}
 use Rattle.writer.specs.declared.writer.DecodedSheet.{DecodedSheet}
 use Rattle.writer.specs.Sheeting.{told}
-use Rattle.writer.proofs.Answers.{answer-left, word, length-word, word-all, entries-few, answer-decoding, exit-front, sheet-size, shown-listable, answer-sheet}
+use Rattle.writer.proofs.Answers.{answer-left, word, length-word, word-all, entries-few}
+use Rattle.writer.proofs.Answers.{answer-decoding, exit-front, sheet-size, shown-listable, answer-sheet}
 use Rattle.writer.proofs.Sheetings.{sheeting-refused, sheeting-short, sheeting-done}
 use Rattle.writer.proofs.writer.decode_sheet.Statement.{statement}
 use Rattle.writer.proofs.writer.decode_sheet.Tie as tie
@@ -38,7 +39,8 @@ settled k = k .before .before .before .before .before
 
 -- the sizes that were tested
 sizes : (k : tie.After-known-told)
-    → let s = entry (settled k) in Fit (s .args .code) (s .args .length) (length (s .args .symbols .now)) (s .args .room) (length (s .args .work .now)) (length (s .args .message .now))
+    → let s = entry (settled k) in
+    Fit (s .args .code) (s .args .length) (length (s .args .symbols .now)) (s .args .room) (length (s .args .work .now)) (length (s .args .message .now))
 sizes k = sizesFit-out _ _ _ _ _ _ (settled k .settle .ensures .fits _ _ (k .before .decoded .given .1))
 
 -- the answer, with its metric and its steps
@@ -46,8 +48,8 @@ answer : (k : tie.After-known-told)
     → let s = entry (settled k) in
     let r = settled k .settle in
     let v = k .before .decoded .given .0 in
-    Answer (trellisOf (s .args .code) (s .args .length) (view (s .args .symbols .now))) (s .args .room) (s .args .allowance) (s .args .work .now) (r .last .1 .1 .1 .1 .1 .0)
-    (v .0) (v .1 .0) (r .result .rows) (r .result .row)
+    Answer (trellisOf (s .args .code) (s .args .length) (view (s .args .symbols .now))) (s .args .room) (s .args .allowance)
+    (s .args .work .now) (r .last .1 .1 .1 .1 .1 .0) (v .0) (v .1 .0) (r .result .rows) (r .result .row)
 answer k = settled k .settle .ensures .answered _ _ (k .before .decoded .given .1)
 
 -- ---- the message is traced, then the terminal's row closed
@@ -65,11 +67,16 @@ abbrev traced : tie.After-close → tie.After-trace
 traced q = q .before .before .before .before
 
 -- the message stands in front
-front : (t : tie.After-trace) → let s = entry (settled (known t)) in take (s .args .length) (exit t) ≡ word (s .args .code) (s .args .length) (s .args .symbols .now) (answer (known t))
-front t = let s = entry (settled (known t)) in exit-front (s .args .code) (s .args .length) (s .args .symbols .now) (answer (known t)) (s .args .message .now) (exit t) (t .trace .ensures)
+front : (t : tie.After-trace) → let s = entry (settled (known t)) in
+    take (s .args .length) (exit t) ≡ word (s .args .code) (s .args .length) (s .args .symbols .now) (answer (known t))
+front t =
+    let s = entry (settled (known t)) in
+    exit-front (s .args .code) (s .args .length) (s .args .symbols .now) (answer (known t)) (s .args .message .now) (exit t) (t .trace .ensures)
 
 front-length : (t : tie.After-trace) → let l = entry (settled (known t)) .args .length in length (take l (exit t)) ≡ l
-front-length t = let s = entry (settled (known t)) in ap length (front t) ∙ length-word (s .args .code) (s .args .length) (s .args .symbols .now) (answer (known t))
+front-length t =
+    let s = entry (settled (known t)) in
+    ap length (front t) ∙ length-word (s .args .code) (s .args .length) (s .args .symbols .now) (answer (known t))
 
 -- ---- the answers
 
@@ -89,9 +96,12 @@ returns : tie.Need-returns
 returns c =
     let r = c .before .before .before .before in
     let s = entry r in
+    let message = s .args .message .now in
+    let sheet = s .args .sheet .now in
     let never = refused-tag _ (c .before .match .keys2) in
-    ap (λ (x : DecodedSheet). told x (s .args .message .now) (s .args .sheet .now)) (c .refusal .ensures)
-    ∙ sheeting-refused (s .args .code) (s .args .length) (s .args .symbols .now) (s .args .room) (s .args .allowance) (length (s .args .work .now)) (s .args .message .now) (s .args .sheet .now) _ never (r .settle .ensures .refused never _ refl)
+    ap (λ (x : DecodedSheet). told x message sheet) (c .refusal .ensures)
+    ∙ sheeting-refused (s .args .code) (s .args .length) (s .args .symbols .now) (s .args .room) (s .args .allowance) (length (s .args .work .now))
+    message sheet _ never (r .settle .ensures .refused never _ refl)
 
 cast-count : tie.Need-cast-count
 cast-count c = search needs
@@ -112,14 +122,18 @@ returns-2 c =
     let z = c .before in
     let k = z .before in
     let s = entry (settled k) in
+    let code = s .args .code in
+    let l = s .args .length in
+    let symbols = s .args .symbols .now in
+    let message = s .args .message .now in
+    let words = length (s .args .work .now) in
     let e = k .before .decoded .given .1 in
-    let t = trellisOf (s .args .code) (s .args .length) (view (s .args .symbols .now)) in
+    let t = trellisOf code l (view symbols) in
     let r = settled k .settle in
-    let out : List ℕ = inFront (s .args .length) (top t) (trace (rowsOf (r .last .1 .1 .1 .1 .1 .0) (r .result .rows)) (top t) (r .result .row)) (s .args .message .now) in
-    sheeting-short (s .args .code) (s .args .length) (s .args .symbols .now) (s .args .room) (s .args .allowance) (length (s .args .work .now)) (s .args .message .now) (s .args .sheet .now)
-    _ _ out (answer-decoding (s .args .code) (s .args .length) (s .args .symbols .now) (answer k) (s .args .message .now) out refl (length (s .args .work .now)) (r .ensures .lawful _ _ e) (r .ensures .fits _ _ e))
-    _ (z .sheet-size .ensures ∙ sheet-size (s .args .code) (s .args .length) (s .args .symbols .now) (answer k) (s .args .message .now) out refl)
-    (c .if1 .taken)
+    let out : List ℕ = inFront l (top t) (trace (rowsOf (r .last .1 .1 .1 .1 .1 .0) (r .result .rows)) (top t) (r .result .row)) message in
+    sheeting-short code l symbols (s .args .room) (s .args .allowance) words message (s .args .sheet .now) _ _ out
+    (answer-decoding code l symbols (answer k) message out refl words (r .ensures .lawful _ _ e) (r .ensures .fits _ _ e))
+    _ (z .sheet-size .ensures ∙ sheet-size code l symbols (answer k) message out refl) (c .if1 .taken)
 
 cast-last : tie.Need-cast-last
 cast-last c = search needs
@@ -138,7 +152,8 @@ close-requires c κs =
     let k = c .before .before .before .before .before .before .before .before .before in
     let s = entry (settled k) in
     let left = answer-left (s .args .code) (s .args .length) (s .args .symbols .now) (answer k) in
-    (answer k .shows .stored, (omega (arith, left .within, length-rowsOf (settled k .settle .last .1 .1 .1 .1 .1 .0) (settled k .settle .result .rows)), left .first))
+    let r = settled k .settle in
+    (answer k .shows .stored, (omega (arith, left .within, length-rowsOf (r .last .1 .1 .1 .1 .1 .0) (r .result .rows)), left .first))
 
 slice-reshare-prefix-put-sheet : tie.Need-slice-reshare-prefix-put-sheet
 slice-reshare-prefix-put-sheet c =
@@ -190,13 +205,14 @@ returns-3 c =
     let l = s .args .length in
     let symbols = s .args .symbols .now in
     let message = s .args .message .now in
+    let words = length (s .args .work .now) in
     let e = k .before .decoded .given .1 in
     let r = settled k .settle in
-    sheeting-done code l symbols (s .args .room) (s .args .allowance) (length (s .args .work .now)) message (s .args .sheet .now)
-    _ _ (exit t) (answer-decoding code l symbols (answer k) message (exit t) (t .trace .ensures) (length (s .args .work .now)) (r .ensures .lawful _ _ e) (r .ensures .fits _ _ e))
-    _ (z .sheet-size .ensures ∙ sheet-size code l symbols (answer k) message (exit t) (t .trace .ensures))
-    (sized t .if1 .left) _
-    (p .put-sheet .ensures ∙ ap (sets (s .args .sheet .now) 0) (answer-sheet code l symbols (answer k) message (exit t) (t .trace .ensures) (q .close .ensures .rows) (take l (exit t)) refl))
+    let sheet = answer-sheet code l symbols (answer k) message (exit t) (t .trace .ensures) (q .close .ensures .rows) (take l (exit t)) refl in
+    sheeting-done code l symbols (s .args .room) (s .args .allowance) words message (s .args .sheet .now) _ _ (exit t)
+    (answer-decoding code l symbols (answer k) message (exit t) (t .trace .ensures) words (r .ensures .lawful _ _ e) (r .ensures .fits _ _ e))
+    _ (z .sheet-size .ensures ∙ sheet-size code l symbols (answer k) message (exit t) (t .trace .ensures)) (sized t .if1 .left)
+    _ (p .put-sheet .ensures ∙ ap (sets (s .args .sheet .now) 0) sheet)
 
 pub decode-sheet-spec : {M : Type 1} → statement M
 decode-sheet-spec =

@@ -29,7 +29,8 @@ put-entries-requires c κs =
     let z = c .before in
     let p = z .before .before .before in
     let s = p .before .before .before .before .before .before .before .before .before in
-    (s .pre .1 .1 .0, (s .pre .1 .1 .1, omega (arith, z .sheet-size .ensures, s .pre .1 .0 .room, p .put-message .kept .0, p .before .before .before .before .put-head .kept .0)))
+    let h = p .before .before .before .before in
+    (s .pre .1 .1 .0, (s .pre .1 .1 .1, omega (arith, z .sheet-size .ensures, s .pre .1 .0 .room, p .put-message .kept .0, h .put-head .kept .0)))
 
 same-length : tie.Need-same-length
 same-length c = search needs
@@ -49,9 +50,11 @@ returns c =
     let entries : List ℕ = flatMap entryBytes (own .entries) in
     let place : third .before .before .sheet-size .result ≡ entriesPlace l = third .before .before .sheet-size .ensures ∙ omega arith in
     third .put-entries .ensures
-    ∙ ap (λ (b : List ℕ). sets b (third .before .before .sheet-size .result) entries) (second .put-message .ensures ∙ ap (λ (b : List ℕ). sets b messagePlace message) (first .put-head .ensures))
+    ∙ ap (λ (b : List ℕ). sets b (third .before .before .sheet-size .result) entries)
+    (second .put-message .ensures ∙ ap (λ (b : List ℕ). sets b messagePlace message) (first .put-head .ensures))
     ∙ ap (λ (k : ℕ). sets (sets (sets out 0 head) messagePlace message) k entries) place
-    ∙ ap (λ (n : ℕ). sets (sets (sets out 0 (headBytes l (s .args .metric) n)) messagePlace message) (entriesPlace l) entries) (sym (length-listed rows (s .args .count) 0))
+    ∙ ap (λ (n : ℕ). sets (sets (sets out 0 (headBytes l (s .args .metric) n)) messagePlace message) (entriesPlace l) entries)
+    (sym (length-listed rows (s .args .count) 0))
     ∙ put-sheet l own out
 
 pub put-sheet-spec : {M : Type 1} → statement M
