@@ -14,12 +14,14 @@ use Rattle.trellis.specs.Verdict.{ranked, steps, met, words, messages, pathOf, 
 use Rattle.trellis.specs.Sheet.{listedAs, listedWithin, conditionA, conditionB, conditionC, conditionD, carries, honest}
 use Rattle.blocks.specs.Symbols.{weight, view}
 use Rattle.blocks.specs.Blocks.{trellisOf, distance, branchCost}
+use Rattle.search.specs.Limits.{wordsPerNode}
 use Rattle.search.specs.Decoding.{Decoding, handed as found, given, decoding}
 use Rattle.sheets.specs.Bytes.{series, bytesOf, octet, following, sheetBytes, numberAt, sheetRead}
 use Rattle.sheets.specs.Checking.{alike, rising, framed, formed, carried, honestSheet, Checking, handed as judged, checking}
 
 -- ---- what is asked, and what comes back
 
+-- the questions, of code 7, 5
 pub data Question : Type 0 where
   -- encode a message into a buffer of so many bytes, each 9
   encode : (message : List ℕ) (room : ℕ) → Question
@@ -36,6 +38,7 @@ pub data Question : Type 0 where
   -- check a sheet for a block with L=1, the message buffer one byte, 9
   check : (symbols : List ℤ) (bytes : List ℕ) → Question
 
+-- the replies, one for each kind of question
 pub data Reply : Type 0 where
   encoded : Encoding → Reply
   apart : (first second : List ℕ) → Reply
@@ -60,10 +63,11 @@ second (x ∷ y ∷ rest) = y ∷ second rest
 abbrev pub tried : List ℤ → Trellis
 tried symbols = trellisOf (houseCode 0) 1 (view symbols)
 
+-- what the definitions reply
 unfoldable pub reply : Question → Reply
 reply (encode message room) = encoded (encoding (houseCode 0) message (replicate room 9))
 reply (sequences message) = apart (first (codeword (houseCode 0) message)) (second (codeword (houseCode 0) message))
-reply (decode symbols room allowance) = decoded (decoding (houseCode 0) 1 symbols room allowance (3 * room) (9 ∷ []))
+reply (decode symbols room allowance) = decoded (decoding (houseCode 0) 1 symbols room allowance (wordsPerNode * room) (9 ∷ []))
 reply (measure symbols message) = measured (metric (tried symbols) (pathOf (tried symbols) message))
 reply (weigh symbols) = weighed (map weight symbols)
 reply (sheet symbols message) = wrote (sheetBytes 1 (honestSheet (tried symbols) message))
@@ -71,11 +75,13 @@ reply (check symbols bytes) = checked (checking (houseCode 0) 1 symbols bytes (9
 
 -- ---- the list
 
+-- a starred case: its number in the paper, what is asked, and the paper's answer
 pub record Case : Type 0 where
   pub number : ℕ
   pub question : Question
   pub answer : Reply
 
+-- the same, part by part
 abbrev pub case : ℕ → Question → Reply → Case
 case n q a = record { number = n; question = q; answer = a }
 
@@ -87,6 +93,7 @@ minus n = negℤ (pos n)
 abbrev pub block : List ℤ
 block = pos 3 ∷ minus 5 ∷ minus 2 ∷ pos 1 ∷ minus 4 ∷ minus 6 ∷ []
 
+-- the block of case 10: 'Six zeros'
 abbrev pub sixZeros : List ℤ
 sixZeros = pos 0 ∷ pos 0 ∷ pos 0 ∷ pos 0 ∷ pos 0 ∷ pos 0 ∷ []
 
@@ -130,10 +137,14 @@ cases =
 
 -- ---- the claim
 
+-- each case has the paper's answer
 pub starred-hold : map (λ c. reply (c .question)) cases ≡ map (λ (c : Case). c .answer) cases
-unfolding cases reply first second given decoding flatMap all keep distinct insert sort below least any lawful houseCodes houseCode outputsFrom codeword encoding ones onesIn
-    allowed ends along paths pathsTo cost reachable successors ranked steps met words messages pathOf leastMetric leastMessages lastFit decided verdict
-    view distance branchCost
+unfolding cases reply first second
+    flatMap all any keep distinct insert sort below least ones onesIn
+    lawful houseCodes houseCode outputsFrom codeword encoding
+    allowed ends along paths pathsTo cost reachable successors
+    ranked steps met words messages pathOf leastMetric leastMessages lastFit decided verdict
+    view distance branchCost given decoding
     listedAs listedWithin conditionA conditionB conditionC conditionD carries honest
     series bytesOf octet following sheetBytes numberAt sheetRead alike rising framed formed carried checking
 starred-hold = refl
