@@ -42,6 +42,7 @@ module _ (c : Code) (l : ℕ) (symbols : List ℤ) (room allowance words : ℕ) 
     pub word : List ℕ
     pub answers : Answers word
 
+  -- so where the number is 0, there is such a message
   pub answers-out : decoding c l symbols room allowance words message .number ≡ 0 → Answered
   unfolding given
   answers-out = go (lawful c) (sizesFit c l (length symbols) room words (length message)) refl refl

@@ -37,7 +37,7 @@ module _ (rows : List Row) where
     pub kept : length after ≡ length message
     pub rest : inFront l (level - 1) (trace rows (level - 1) (r .parent)) after ≡ inFront l level (trace rows level i) message
 
-  -- the two ways, with the row as it is read
+  -- from level L on nothing is put
   left-out : (level i l : ℕ) (message : List ℕ) → 0 < level → l ≤ level - 1 → Put level i l (rowAt rows i) message message
   unfolding trace
   left-out zero i l message h k = absurd (omega arith)
@@ -47,6 +47,7 @@ module _ (rows : List Row) where
       let high : min (suc level) l ≡ min level l = omega arith in
       record { kept = refl; rest = rw (below, more, high) }
 
+  -- below level L the input is put
   put-in : (level i l : ℕ) (message : List ℕ) → 0 < level → level - 1 < l → l ≤ length message
       → Put level i l (rowAt rows i) message (set message (level - 1) (rowAt rows i .input))
   unfolding trace

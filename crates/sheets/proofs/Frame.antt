@@ -75,15 +75,17 @@ unfolding sheetRead
 counted l bytes = length-series (numberAt 2 countPlace bytes) _
 
 module _ (l : ℕ) (bytes : List ℕ) (b : Bytes bytes) (some : 1 ≤ l) (short : l < 65536) where
-  -- what is written in front of the message
+  -- what is written in front of the message: the length field
   follow-back : numberAt 4 0 (sheetBytes l (sheetRead l bytes)) + 4 ≡ sheetSize l (numberAt 2 countPlace bytes)
   unfolding sheetBytes bytesOf numberAt
   follow-back = omega (arith, length-following l (sheetRead l bytes), counted l bytes, numberAt-below bytes b 2 countPlace)
 
+  -- the kind
   kind-back : numberAt 2 4 (sheetBytes l (sheetRead l bytes)) ≡ kind
   unfolding sheetBytes following bytesOf numberAt
   kind-back = omega arith
 
+  -- L
   span-back : numberAt 2 6 (sheetBytes l (sheetRead l bytes)) ≡ l
   unfolding sheetBytes following bytesOf numberAt
   span-back = omega arith

@@ -55,6 +55,7 @@ module _ (c : Code) (l : ℕ) (symbols : List ℤ) (w message : List ℕ) (h : A
 
   -- ---- its fields fit
 
+  -- the message is one of L bits
   word : Word 2 l w
   unfolding messages
   word = words-out 2 l (leastMessages-out t (subst (λ (x : List (List ℕ)). w ∈ x) (sym (h .one)) (here refl)) .member)
@@ -72,6 +73,7 @@ module _ (c : Code) (l : ℕ) (symbols : List ℤ) (w message : List ℕ) (h : A
     state : e .node .state < 2 ^ c .memory
     cost : e .cost ≤ leastMetric t
 
+  -- each lies in the trellis and costs no more than the metric
   inside : Every Inside (honest t (leastMetric t))
   inside e m =
       let d : Due t (leastMetric t) e = honest-out t (leastMetric t) m in
@@ -82,6 +84,7 @@ module _ (c : Code) (l : ℕ) (symbols : List ℤ) (w message : List ℕ) (h : A
         cost = d .within;
       }
 
+  -- so every field fits its width
   fits : Fits l sheet
   fits = record {
     span = omega (arith, h .tested .span);
@@ -109,12 +112,14 @@ module _ (c : Code) (l : ℕ) (symbols : List ℤ) (w message : List ℕ) (h : A
   abbrev bytes : List ℕ
   bytes = sheetBytes l sheet
 
+  -- it is read back
   back : sheetRead l bytes ≡ sheet
   back = read-written l sheet fits
 
   listed : sheetRead l bytes .entries ≡ honest t (leastMetric t)
   listed = ap (λ (s : Sheet). s .entries) back
 
+  -- its form is good
   good : Formed c l bytes
   unfolding framed
   good = record {
@@ -132,6 +137,7 @@ module _ (c : Code) (l : ℕ) (symbols : List ℤ) (w message : List ℕ) (h : A
       node : (e : Entry) → Inside e → T (inTrellis c l e)
       node e i = and-in (leb (e .node .level) (l + c .memory)) (ltb (e .node .state) (2 ^ c .memory)) (le→leb _ _ (i .level)) (lt→ltb _ _ (i .state))
 
+  -- and it carries its claim
   claim : carried t (sheetRead l bytes) ≡ true
   unfolding carried
   claim = ap (carried t) back ∙ sheet-complete law (h .one)

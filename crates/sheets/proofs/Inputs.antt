@@ -7,8 +7,8 @@ use native.Mathlib.Omega.{arith}
 use borrow.Author.Tests.{leb-true, ltb-true}
 use lib.Dec.{leb, ltb}
 use Rattle.lists.specs.Lists.{all, below}
+use Rattle.lists.proofs.Tests.{both}
 use Rattle.codes.specs.declared.table.Code.{Code}
-use Rattle.codes.proofs.Rules.{both}
 use Rattle.trellis.specs.Verdict.{Entry}
 use Rattle.sheets.specs.Checking.{inTrellis}
 

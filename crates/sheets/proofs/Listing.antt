@@ -99,19 +99,24 @@ neighbours-test bytes b i h =
 
 -- for the loop that tests the order, by the work that is left
 module _ (es : List Entry) (d : Entry) (i : ℕ) where
+  -- two neighbours and the rest
   two : suc i < length es → drop i es ≡ getD es i d ∷ getD es (suc i) d ∷ drop (suc (suc i)) es
   two h = drop-cons es i d (omega arith) ∙ ap (λ (l : List Entry). getD es i d ∷ l) (drop-cons es (suc i) d h)
 
+  -- the neighbours decide, then the rest
   rising-at : suc i < length es → rising (drop i es) ≡ lower (getD es i d) (getD es (suc i) d) && rising (drop (suc i) es)
   unfolding rising
   rising-at h = rw (two h, drop-cons es (suc i) d h)
 
+  -- for the next turn: they are in order
   pub rising-next : suc i < length es → lower (getD es i d) (getD es (suc i) d) ≡ true → rising (drop i es) ≡ rising (drop (suc i) es)
   rising-next h e = rising-at h ∙ rw e
 
+  -- for an early return: they are not
   pub rising-stop : suc i < length es → lower (getD es i d) (getD es (suc i) d) ≡ false → rising (drop i es) ≡ false
   rising-stop h e = rising-at h ∙ rw e
 
+  -- for the loop's end: no two are left
   pub rising-done : length es ≤ suc i → rising (drop i es) ≡ true
   unfolding rising
   rising-done h = go (drop i es) (omega (arith, length-drop i es))

@@ -7,11 +7,11 @@ use Prim.Native.Nat.{ℕ, _≤_}
 use lib.IntN.{ℤ}
 use lib.ListN.{length, drop}
 use Rattle.lists.specs.Lists.{all}
+use Rattle.lists.proofs.Tests.{both}
 use Rattle.lists.proofs.Decides.{Decides, said, both as decided-both, equal, atMost}
 use Rattle.codes.specs.declared.table.Code.{Code}
 use Rattle.codes.specs.Limits.{shortestMessage, longestMessage}
 use Rattle.codes.specs.Codes.{from, lawful, blockLength}
-use Rattle.codes.proofs.Rules.{both}
 use Rattle.blocks.specs.Symbols.{view}
 use Rattle.blocks.specs.Blocks.{trellisOf}
 use Rattle.sheets.specs.Bytes.{sheetRead, numberAt, countPlace}
@@ -48,6 +48,7 @@ pub record Formed (c : Code) (l : ℕ) (bytes : List ℕ) : Type 0 where
   pub ordered : rising (sheetRead l bytes .entries) ≡ true
   pub inside : all (inTrellis c l) (sheetRead l bytes .entries) ≡ true
 
+-- from the test to its parts
 pub formed-out : (c : Code) (l : ℕ) (bytes : List ℕ) → formed c l bytes ≡ true → Formed c l bytes
 unfolding formed
 formed-out c l bytes h =

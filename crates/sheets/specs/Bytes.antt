@@ -64,16 +64,19 @@ unfoldable pub numberAt : ℕ → ℕ → List ℕ → ℕ
 numberAt zero at bytes = 0
 numberAt (suc width) at bytes = getD bytes at 0 + 256 * numberAt width (suc at) bytes
 
--- where the fields stand, by the bytes before them: '4 bytes: ..', '2 bytes: kind 257. 2: L. 4: metric M. 2: entry count'
+-- Where the fields stand, by the bytes before them: '4 bytes: number of bytes that follow. 2 bytes: kind 257. 2: L. 4: metric M.'
 abbrev pub metricPlace : ℕ
 metricPlace = 8
 
+-- '2: entry count'
 abbrev pub countPlace : ℕ
 countPlace = 12
 
+-- 'The message'
 abbrev pub messagePlace : ℕ
 messagePlace = 14
 
+-- 'Entries', behind the message
 abbrev pub entriesPlace : ℕ → ℕ
 entriesPlace l = messagePlace + messageSize l
 

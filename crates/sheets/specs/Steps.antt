@@ -141,7 +141,7 @@ pub record Branching (c : Code) (l : ℕ) (block bytes states metrics : List ℕ
 
 -- the same with the whole sheet, and states of two bytes
 pub record Ready (c : Code) (l : ℕ) (block bytes states metrics : List ℕ) : Type 0 where
-  pub size : length bytes ≡ entriesPlace l + 8 * numberAt 2 countPlace bytes
+  pub size : length bytes ≡ sheetSize l (numberAt 2 countPlace bytes)
   pub branching : Branching c l block (drop (entriesPlace l) bytes) states metrics
   pub small : (j : ℕ) → j ≤ l + c .memory → getD states j 0 < 65536
 

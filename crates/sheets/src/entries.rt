@@ -9,7 +9,7 @@ ghost use Rattle.lists.specs.Lists.{all};
 ghost use Rattle.trellis.specs.Trellis.{node};
 ghost use Rattle.sheets.specs.Bytes.{entryAt};
 ghost use Rattle.sheets.specs.Checking.{rising};
-ghost use Rattle.sheets.specs.Steps.{entriesIn, keyOf, Sought, listedCost, Place};
+ghost use Rattle.sheets.specs.Steps.{entriesIn, keyOf, Sought, absent, listedCost, Place};
 
 // Where a node is not listed: more than any cost of four bytes.
 const ABSENT: u64 = 4294967296;
@@ -31,7 +31,7 @@ pub fn state(entries: &[u8], i: usize) -> u64
 
 pub fn cost(entries: &[u8], i: usize) -> u64
     requires { ⌜ Place (now entries) i ⌝ }
-    ensures { λ r. ⌜ (r ≡ entryAt (now (entries .entry)) (8 * i) .cost) × (r < 4294967296) ⌝ }
+    ensures { λ r. ⌜ (r ≡ entryAt (now (entries .entry)) (8 * i) .cost) × (r < absent) ⌝ }
 {
     four_bytes(entries, 8 * i + 4) as u64
 }

@@ -14,7 +14,8 @@ use lib.Seq.{take-at}
 use Rattle.codes.specs.declared.table.Code.{Code}
 use Rattle.codes.specs.Limits.{shortestMessage, longestMessage}
 use Rattle.codes.specs.Codes.{from}
-use Rattle.codes.proofs.Rules.{both, from-out}
+use Rattle.codes.proofs.Rules.{from-out}
+use Rattle.lists.proofs.Tests.{both}
 use Rattle.lists.proofs.Membership.{Every}
 use Rattle.trellis.specs.Trellis.{Trellis}
 use Rattle.trellis.specs.Verdict.{steps, messages}

@@ -28,14 +28,8 @@ pub record Sheeting : Type 0 where
 
 -- the same, part by part
 abbrev pub handed : (number metric steps size : ℕ) (message sheet : List ℕ) → Sheeting
-handed number metric steps size message sheet = record {
-  number = number;
-  metric = metric;
-  steps = steps;
-  size = size;
-  message = message;
-  sheet = sheet;
-}
+handed number metric steps size message sheet =
+    record { number = number; metric = metric; steps = steps; size = size; message = message; sheet = sheet }
 
 -- 'For each case of an enum answer, a definition gives this paper's number and values'; 'Values not named in a row are 0.'
 unfoldable pub told : DecodedSheet → List ℕ → List ℕ → Sheeting
