@@ -24,6 +24,7 @@ use Rattle.search.specs.declared.decoder.Decoded.the-variants.{Done, NoR
 use Rattle.search.specs.declared.decoder.Settled.{Settled}
 use Rattle.search.specs.declared.run.Halt.{Halt}
 use Rattle.search.specs.declared.run.Reached.the-variants.{Terminal, Full, Spent}
+use Rattle.search.proofs.Refusals.{refused-other}
 use Rattle.search.proofs.Tracing.{searched-traceable, front-whole}
 
 -- ---- an answer
@@ -81,7 +82,7 @@ module _ (c : Code) (l : ℕ) (seen : List ℕ) (room allowance : ℕ) {first wo
   unfolding told given read
   halt-full steps rows row e =
       refuses (record { decoded = NoRoom steps; rows = rows; row = row })
-      (λ m s q. let n : _≡_ {A = ℕ} 0 1 = cc (q) in omega arith)
+      (refused-other (NoRoom steps) 2 refl)
       (λ message. sym (ap (λ (v : Verdict). given v message) (halt-read (full steps) (ap outcomeOf e))))
 
   -- for a halt without allowance
@@ -90,7 +91,7 @@ module _ (c : Code) (l : ℕ) (seen : List ℕ) (room allowance : ℕ) {first wo
   unfolding told given read
   halt-spent steps rows row e =
       refuses (record { decoded = NoAllowance steps; rows = rows; row = row })
-      (λ m s q. let n : _≡_ {A = ℕ} 0 1 = cc (q) in omega arith)
+      (refused-other (NoAllowance steps) 3 refl)
       (λ message. sym (ap (λ (v : Verdict). given v message) (halt-read (spent steps) (ap outcomeOf e))))
 
   -- for a halt at the terminal
@@ -110,7 +111,7 @@ module _ (c : Code) (l : ℕ) (seen : List ℕ) (room allowance : ℕ) {first wo
     unfolding told given read
     halt-tied rows row more =
         refuses (record { decoded = Tied metric steps; rows = rows; row = row })
-        (λ m s q. let n : _≡_ {A = ℕ} 0 1 = cc (q) in omega arith)
+        (refused-other (Tied metric steps) 4 refl)
         (λ message. sym (rw (halt-read (found metric steps count i) (ap outcomeOf e), lt-leb count 1 more)))
 
     -- one alone is the answer

@@ -1,14 +1,19 @@
--- An answer whose tag is not that of Done is a refusal: what `let .. else` on a decode's answer knows. Assumes nothing.
-use mathlib.Core.Path.{_≡_, ap}
+-- An answer whose tag is not that of Done is a refusal: of each refusal by its tag, and what `let .. else` on a decode's answer knows.
+-- Assumes nothing.
+use mathlib.Core.Path.{_≡_, sym, ap, _∙_}
 use mathlib.Core.Logic.{inl, inr}
 use mathlib.Core.List.{[], _∷_}
-use Prim.Native.Nat.{ℕ}
+use Prim.Native.Nat.{ℕ, suc}
 use native.Mathlib.Omega.{arith}
 use denote.Enum.Declared.{tagOf}
 use types.Run.{OneOf}
 use Rattle.search.specs.Settling.{Refused}
 use Rattle.search.specs.declared.decoder.Decoded.{Decoded}
 use Rattle.search.proofs.decoder.Decoded.{the-type}
+
+-- for a refusal by its name: its tag is above 0
+pub refused-other : (r : Decoded) (n : ℕ) → tagOf the-type r ≡ suc n → Refused r
+refused-other r n t metric steps e = let z : suc n ≡ 0 = sym t ∙ ap (tagOf the-type) e in omega arith
 
 -- 0 is none of the others
 none : (x : ℕ) → x ≡ 0 → OneOf (1 ∷ 2 ∷ 3 ∷ 4 ∷ 5 ∷ []) x → ⊥

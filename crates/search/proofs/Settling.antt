@@ -1,9 +1,8 @@
 -- What a decode came to, from its tests and its search: the three ways, in the order of the definition. Assumes nothing.
-use mathlib.Core.Path.{_≡_, sym, ap, _∙_}
+use mathlib.Core.Path.{_≡_, refl, sym, ap, _∙_}
 use mathlib.Core.List.{List}
 use mathlib.Core.Bool.{true, false}
 use Prim.Native.Nat.{ℕ}
-use native.Mathlib.Omega.{arith}
 use lib.IntN.{ℤ}
 use lib.ListN.{length}
 use Rattle.codes.specs.Codes.{lawful}
@@ -14,6 +13,7 @@ use Rattle.search.specs.Decoding.{told, sizesFit, decoding}
 use Rattle.search.specs.Settling.{Refused, Searches, Settles}
 use Rattle.search.specs.declared.decoder.Decoded.the-variants.{BadCode, BadSize}
 use Rattle.search.specs.declared.decoder.Settled.{Settled}
+use Rattle.search.proofs.Refusals.{refused-other}
 use Rattle.search.proofs.Decodings.{decoding-bad-code, decoding-bad-size, decoding-verdict}
 
 module _ (c : Code) (l : ℕ) (symbols : List ℤ) (room allowance : ℕ) (first : List ℕ) (buffer : ℕ) (work : List ℕ) where
@@ -34,7 +34,7 @@ module _ (c : Code) (l : ℕ) (symbols : List ℤ) (room allowance : ℕ) (first
   unfolding told
   settles-bad-code rows row h =
       refuses (record { decoded = BadCode; rows = rows; row = row })
-      (λ m s q. let n : _≡_ {A = ℕ} 0 1 = cc (q) in omega arith)
+      (refused-other BadCode 0 refl)
       (λ message e. sym (decoding-bad-code c l symbols room allowance (length first) message h))
 
   module _ (own : lawful c ≡ true) where
@@ -44,7 +44,7 @@ module _ (c : Code) (l : ℕ) (symbols : List ℤ) (room allowance : ℕ) (first
     unfolding told
     settles-bad-size rows row h =
         refuses (record { decoded = BadSize; rows = rows; row = row })
-        (λ m s q. let n : _≡_ {A = ℕ} 0 1 = cc (q) in omega arith)
+        (refused-other BadSize 1 refl)
         (λ message e.
         sym (decoding-bad-size c l symbols room allowance (length first) message own (ap (sizesFit c l (length symbols) room (length first)) e ∙ h)))
 

@@ -39,14 +39,14 @@ use Rattle.sheets.proofs.Listing.{rising-test}
 use Rattle.sheets.proofs.Rows.{Formed, formed-in, sizes-test, checking-accepted}
 
 -- What is asked: a block of its own code, a buffer with room, one least message, and not too many entries.
-pub record Answerable (c : Code) (l : ℕ) (symbols : List ℤ) (w message : List ℕ) : Type 0 where
+pub record HasSheet (c : Code) (l : ℕ) (symbols : List ℤ) (w message : List ℕ) : Type 0 where
   pub tested : Tested c l symbols
   pub some : 1 ≤ l
   pub room : l ≤ length message
   pub one : leastMessages (trellisOf c l (view symbols)) ≡ w ∷ []
   pub few : length (honest (trellisOf c l (view symbols)) (leastMetric (trellisOf c l (view symbols)))) ≤ mostEntries
 
-module _ (c : Code) (l : ℕ) (symbols : List ℤ) (w message : List ℕ) (h : Answerable c l symbols w message) where
+module _ (c : Code) (l : ℕ) (symbols : List ℤ) (w message : List ℕ) (h : HasSheet c l symbols w message) where
   abbrev t : Trellis
   t = trellisOf c l (view symbols)
 

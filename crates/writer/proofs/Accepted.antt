@@ -32,7 +32,7 @@ use Rattle.search.proofs.Answers.{Answers, Answered, answers-in, answers-out}
 use Rattle.sheets.specs.Bytes.{sheetBytes}
 use Rattle.sheets.specs.Checking.{honestSheet, checking}
 use Rattle.sheets.specs.Checking as check
-use Rattle.sheets.proofs.HonestSheet.{Answerable, honest-accepted}
+use Rattle.sheets.proofs.HonestSheet.{HasSheet, honest-accepted}
 use Rattle.writer.specs.Sheeting.{Sheeting, handed, written, sheeting}
 use Rattle.writer.proofs.Sheetings.{answered-sheeting}
 
@@ -94,8 +94,8 @@ module _ (c : Code) (l : ℕ) (symbols : List ℤ) (room allowance words : ℕ) 
         go (no h) = given ∙ rw (le-ltb (length sheet) (length bytes) (omega arith))
 
     -- the check's own conditions
-    answerable : Typed c symbols → (buffer : List ℕ) → l ≤ length buffer → Answerable c l symbols w buffer
-    answerable h buffer k =
+    has-sheet : Typed c symbols → (buffer : List ℕ) → l ≤ length buffer → HasSheet c l symbols w buffer
+    has-sheet h buffer k =
         let f : Fit c l (length symbols) room words (length message) = sizesFit-out c l (length symbols) room words (length message) (a .sizes) in
         record {
           tested = record { code = a .code; span = f .long; size = f .block; bytes = h .bytes; full = h .full };
@@ -120,5 +120,5 @@ module _ (c : Code) (l : ℕ) (symbols : List ℤ) (room allowance words : ℕ) 
           (λ (r : Sheeting). checking c l symbols (take (r .size) (r .sheet)) buffer ≡ check.handed 0 (r .metric) (take l (r .message) ++ drop l buffer))
           (sym (whole a z))
           (ap (λ (s : List ℕ). checking c l symbols s buffer) (take-at (bytes a) (drop (length (bytes a)) sheet) (length (bytes a)) refl)
-          ∙ honest-accepted c l symbols w buffer (answerable a h buffer k)
+          ∙ honest-accepted c l symbols w buffer (has-sheet a h buffer k)
           ∙ (λ i. check.handed 0 (sym (alone-paid (a .answerable .alone)) i) (sym (front a) i ++ drop l buffer)))
