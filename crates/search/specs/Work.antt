@@ -8,14 +8,16 @@ use lib.ListN.{length, drop}
 use Rattle.codes.specs.Limits.{longestMessage}
 use Rattle.codes.specs.Codes.{lawful, blockLength}
 use Rattle.codes.specs.declared.table.Code.{Code}
-use Rattle.trellis.specs.Trellis.{Trellis, Path}
+use Rattle.trellis.specs.Trellis.{Trellis, Path, allowed}
 use Rattle.trellis.specs.Verdict.{Entry}
 use Rattle.trellis.specs.Sheet.{onto}
 use Rattle.trellis.specs.Search.{Row, rowAt, Tried, Outcome, found, full, spent, Ended}
+use Rattle.trellis.proofs.Safe.{Safe}
 use Rattle.blocks.specs.Blocks.{trellisOf}
 use Rattle.blocks.specs.Bounds.{totalWeight}
 use Rattle.blocks.specs.Packed.{seenIn}
-use Rattle.store.specs.Memory.{Stored, Shows}
+use Rattle.store.specs.declared.Held.{Held}
+use Rattle.store.specs.Memory.{rowOf, rowsOf, Small, Stored, Shows}
 use Rattle.search.specs.Limits.{largestRoom, wordsPerNode}
 use Rattle.search.specs.declared.step.Tally.{Tally}
 use Rattle.search.specs.declared.run.Halt.{Halt}
@@ -64,6 +66,20 @@ pub record Fitting (c : Code) (l : ℕ) (e : Entry) : Type 0 where
   pub level : e .node .level ≤ l + c .memory
   pub state : e .node .state < 2 ^ (c .memory)
   pub cost : e .cost < heaviest
+
+-- what leaves a row at an index: its node and its numbers fit, and the input is allowed there
+pub record Leaving (c : Code) (l : ℕ) (seen : List ℕ) (from : Held) (i input : ℕ) : Type 0 where
+  pub fitting : Fitting c l (rowOf from .entry)
+  pub small : Small from
+  pub within : i < largestRoom
+  pub allows : input < allowed (trellisIn c l seen) (from .level)
+
+-- row i of the rows that the memory holds can be gone on from
+pub record Steppable (c : Code) (l : ℕ) (seen work : List ℕ) (n room i : ℕ) : Type 0 where
+  pub searchable : Searchable c l seen
+  pub roomy : Roomy work n room
+  pub within : i < n
+  pub safe : Safe (trellisIn c l seen) cap room (rowsOf work n)
 
 -- ---- what is made
 

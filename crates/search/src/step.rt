@@ -14,10 +14,8 @@ ghost use mathlib.Core.Path.{_≡_};
 ghost use Prim.Native.Nat.{_+_, _<_};
 ghost use Rattle.trellis.specs.Trellis.{allowed};
 ghost use Rattle.trellis.specs.Search.{nodeAt, findRow, firstOpen, entered, relax, expand};
-ghost use Rattle.trellis.proofs.Safe.{Safe};
 ghost use Rattle.store.specs.Memory.{rowOf, rowsOf, Small};
-ghost use Rattle.search.specs.Limits.{largestRoom};
-ghost use Rattle.search.specs.Work.{cap, trellisIn, Searchable, Roomy, Fitting, brought, Tries};
+ghost use Rattle.search.specs.Work.{cap, trellisIn, Searchable, Roomy, Leaving, Steppable, brought, Tries};
 
 // Least paths are counted up to two.
 const CAP: u64 = 2;
@@ -30,8 +28,7 @@ pub struct Tally {
 
 // What the branch with an input brings from a row to the node where it leads.
 fn arrival(code: Code, bits: u64, seen: &[u16], from: Held, i: usize, input: u64) -> Held
-    requires { ⌜ Searchable code bits (now seen) ⌝ ∗ ⌜ Fitting code bits (rowOf from .entry) ⌝ }
-    requires { ⌜ (input < allowed (trellisIn code bits (now seen)) (from .level)) × (i < largestRoom) × Small from ⌝ }
+    requires { ⌜ Searchable code bits (now seen) ⌝ ∗ ⌜ Leaving code bits (now seen) from i input ⌝ }
     ensures { λ r. ⌜ (rowOf r ≡ brought (trellisIn code bits (now (seen .entry))) (rowOf from) i input) × Small r ⌝ }
 {
     let cost = from.cost + price(code, seen, from.level, from.state, input);
@@ -100,8 +97,7 @@ fn relax(
     i: usize,
     input: u64,
 ) -> Tally
-    requires { ⌜ Searchable code bits (now seen) ⌝ ∗ ⌜ Roomy (now work) n room ⌝ ∗ ⌜ i < n ⌝ }
-    requires { ⌜ Safe (trellisIn code bits (now seen)) cap room (rowsOf (now work) n) ⌝ }
+    requires { ⌜ Steppable code bits (now seen) (now work) n room i ⌝ }
     requires { ⌜ input < allowed (trellisIn code bits (now seen)) (nodeAt (rowsOf (now work) n) i .level) ⌝ }
     ensures { λ r. ⌜ Tries (now (work .entry)) (now (work .exit)) room r
         (relax (trellisIn code bits (now (seen .entry))) cap room i input (rowsOf (now (work .entry)) n)) ⌝ }
@@ -121,8 +117,7 @@ pub fn expand(
     room: usize,
     i: usize,
 ) -> Tally
-    requires { ⌜ Searchable code bits (now seen) ⌝ ∗ ⌜ Roomy (now work) n room ⌝ ∗ ⌜ i < n ⌝ }
-    requires { ⌜ Safe (trellisIn code bits (now seen)) cap room (rowsOf (now work) n) ⌝ ∗ ⌜ i ≡ firstOpen (rowsOf (now work) n) ⌝ }
+    requires { ⌜ Steppable code bits (now seen) (now work) n room i ⌝ ∗ ⌜ i ≡ firstOpen (rowsOf (now work) n) ⌝ }
     ensures { λ r. ⌜ Tries (now (work .entry)) (now (work .exit)) room r
         (expand (trellisIn code bits (now (seen .entry))) cap room i (rowsOf (now (work .entry)) n)) ⌝ }
 {

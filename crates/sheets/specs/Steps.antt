@@ -121,6 +121,12 @@ pub record Walkable (c : Code) (l : ℕ) (block bytes states metrics : List ℕ)
   pub room : l + c .memory < length states
   pub more : l + c .memory < length metrics
 
+-- entries that rise, and a node whose level and state have two bytes each
+pub record Findable (bytes : List ℕ) (level state : ℕ) : Type 0 where
+  pub ordered : rising (entriesIn bytes) ≡ true
+  pub level-small : level < 65536
+  pub state-small : state < 65536
+
 -- entries that rise, and the states of a path to a level
 pub record Followed (bytes states metrics : List ℕ) (top : ℕ) : Type 0 where
   pub ordered : rising (entriesIn bytes) ≡ true

@@ -15,7 +15,6 @@ use blocks::view::see;
 use codes::limits::LONGEST_BLOCK;
 use codes::table::Code;
 ghost use mathlib.Core.Path.{_≡_};
-ghost use mathlib.Core.Bool.{true};
 ghost use Prim.Native.Nat.{_+_, _*_, _<_};
 ghost use lib.ListN.{length};
 ghost use Rattle.lists.specs.Lists.{all};
@@ -24,15 +23,15 @@ ghost use Rattle.blocks.specs.Packed.{seenIn};
 ghost use Rattle.blocks.specs.Symbols.{view};
 ghost use Rattle.blocks.specs.Blocks.{trellisOf};
 ghost use Rattle.sheets.specs.Bytes.{entryAt, sheetRead};
-ghost use Rattle.sheets.specs.Checking.{rising, carried};
-ghost use Rattle.sheets.specs.Steps.{entriesIn, onward, clear, allPassing, tested, Branching, Ready, Checkable, Place};
+ghost use Rattle.sheets.specs.Checking.{carried};
+ghost use Rattle.sheets.specs.Steps.{entriesIn, onward, clear, allPassing, tested, Findable, Branching, Ready, Checkable, Place};
 
 // The nodes of the longest path: levels 0 to 200 + 16.
 const LONGEST_PATH: usize = 217;
 
 // B for a branch to a node at a cost in all, which may be any sum of two numbers of 32 bits.
 fn goes_on(entries: &[u8], metric: u64, level: u64, state: u64, total: u64) -> bool
-    requires { ⌜ (rising (entriesIn (now entries)) ≡ true) × (level < 65536) × (state < 65536) ⌝ }
+    requires { ⌜ Findable (now entries) level state ⌝ }
     ensures { λ r. ⌜ r ≡ onward (entriesIn (now (entries .entry))) metric (entry total level state) ⌝ }
 {
     if metric < total {

@@ -9,7 +9,7 @@ ghost use Rattle.lists.specs.Lists.{all};
 ghost use Rattle.trellis.specs.Trellis.{node};
 ghost use Rattle.sheets.specs.Bytes.{entryAt};
 ghost use Rattle.sheets.specs.Checking.{rising};
-ghost use Rattle.sheets.specs.Steps.{entriesIn, keyOf, Sought, absent, listedCost, Place};
+ghost use Rattle.sheets.specs.Steps.{entriesIn, keyOf, Sought, absent, listedCost, Findable, Place};
 
 // Where a node is not listed: more than any cost of four bytes.
 const ABSENT: u64 = 4294967296;
@@ -102,7 +102,7 @@ fn find(entries: &[u8], sought: u64) -> usize
 
 // The cost that the entries give a node; more than any cost if it is not listed.
 pub fn listed(entries: &[u8], level: u64, state: u64) -> u64
-    requires { ⌜ (rising (entriesIn (now entries)) ≡ true) × (level < 65536) × (state < 65536) ⌝ }
+    requires { ⌜ Findable (now entries) level state ⌝ }
     ensures { λ r. ⌜ r ≡ listedCost (entriesIn (now (entries .entry))) (node level state) ⌝ }
 {
     let place = find(entries, level * 65536 + state);

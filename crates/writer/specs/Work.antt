@@ -4,6 +4,7 @@ use Prim.Native.Nat.{ℕ, zero, suc, _^_, _<_}
 use lib.ListN.{length}
 use Rattle.trellis.specs.Verdict.{Entry}
 use Rattle.trellis.specs.Search.{Row, entryAt, nodeAt, costAt, nextClosed}
+use Rattle.store.specs.Memory.{rowsOf, Stored}
 use Rattle.search.specs.declared.decoder.Decoded.{Decoded}
 use Rattle.search.specs.declared.decoder.Decoded.the-variants as decoded
 use Rattle.sheets.specs.Bytes.{Sheet}
@@ -19,6 +20,11 @@ listed rows (suc n) k = entryAt rows k ∷ listed rows n (nextClosed (nodeAt row
 unfoldable pub Listable : List Row → ℕ → ℕ → Type 0
 Listable rows zero k = Unit {0}
 Listable rows (suc n) k = (k < length rows) × (costAt rows k < 2 ^ 32) × Listable rows n (nextClosed (nodeAt rows k) rows)
+
+-- the memory holds n rows, and among them so many entries
+pub record HoldsEntries (work : List ℕ) (n count : ℕ) : Type 0 where
+  pub stored : Stored work n
+  pub listable : Listable (rowsOf work n) count 0
 
 -- a sheet by its parts
 abbrev pub sheetOf : ℕ → List ℕ → List Entry → Sheet

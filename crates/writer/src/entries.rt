@@ -7,13 +7,13 @@ ghost use mathlib.Core.List.{flatMap};
 ghost use Prim.Native.Nat.{_+_, _*_, _≤_};
 ghost use lib.ListN.{length};
 ghost use lib.Seq.{sets};
-ghost use Rattle.store.specs.Memory.{rowsOf, Stored};
+ghost use Rattle.store.specs.Memory.{rowsOf};
 ghost use Rattle.sheets.specs.Bytes.{entryBytes};
-ghost use Rattle.writer.specs.Work.{listed, Listable};
+ghost use Rattle.writer.specs.Work.{listed, HoldsEntries};
 
 // Puts so many entries from a place on: the origin's row, and each time the closed row whose node comes next.
 pub fn put_entries(work: &[u64], n: usize, count: usize, place: usize, sheet: &mut [u8])
-    requires { ⌜ Stored (now work) n ⌝ ∗ ⌜ Listable (rowsOf (now work) n) count 0 ⌝ ∗ ⌜ place + 8 * count ≤ length (now sheet) ⌝ }
+    requires { ⌜ HoldsEntries (now work) n count ⌝ ∗ ⌜ place + 8 * count ≤ length (now sheet) ⌝ }
     ensures { λ _. ⌜ now (sheet .exit)
         ≡ sets (now (sheet .entry)) place (flatMap entryBytes (listed (rowsOf (now (work .entry)) n) count 0)) ⌝ }
 {

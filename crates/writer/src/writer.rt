@@ -14,10 +14,10 @@ ghost use lib.ListN.{length};
 ghost use lib.Seq.{sets};
 ghost use Rattle.lists.specs.Lists.{all};
 ghost use Rattle.codes.specs.Encoding.{isBit};
-ghost use Rattle.store.specs.Memory.{rowsOf, Stored};
+ghost use Rattle.store.specs.Memory.{rowsOf};
 ghost use Rattle.sheets.specs.Bytes.{sheetBytes};
 ghost use Rattle.sheets.specs.Steps.{Puttable};
-ghost use Rattle.writer.specs.Work.{passed, listed, Listable, sheetOf};
+ghost use Rattle.writer.specs.Work.{passed, listed, HoldsEntries, sheetOf};
 ghost use Rattle.writer.specs.Sheeting.{told, sheeting};
 
 // What `decode_sheet` answers: the message and the sheet are written, with the metric, the steps and the sheet's bytes; or a refusal of
@@ -111,7 +111,7 @@ fn refusal(decoded: Decoded) -> DecodedSheet
 // Writes a sheet over the front of the buffer: its metric, its message, and so many entries from the closed rows.
 fn put_sheet(metric: u32, count: usize, bits: &[u8], work: &[u64], rows: usize, sheet: &mut [u8])
     requires { ⌜ all isBit (now bits) ≡ true ⌝ ∗ ⌜ Puttable (length (now bits)) count (now sheet) ⌝ }
-    requires { ⌜ Stored (now work) rows ⌝ ∗ ⌜ Listable (rowsOf (now work) rows) count 0 ⌝ }
+    requires { ⌜ HoldsEntries (now work) rows count ⌝ }
     ensures { λ _. ⌜ now (sheet .exit)
         ≡ sets (now (sheet .entry)) 0 (sheetBytes (length (now (bits .entry)))
         (sheetOf metric (now (bits .entry)) (listed (rowsOf (now (work .entry)) rows) count 0))) ⌝ }

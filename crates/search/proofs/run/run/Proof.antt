@@ -164,8 +164,10 @@ expand-requires c κs =
     let w = c .before .before .before in
     let a = asking w in
     let f = w .before .before .before in
-    let s = entry a in
-    (s .pre .0, (a .loop .inv .roomy, (open-row f, (a .loop .inv .running .safe, f .first-open .ensures))))
+    let s = entry a in (
+      record { searchable = s .pre .0; roomy = a .loop .inv .roomy; within = open-row f; safe = a .loop .inv .running .safe },
+      f .first-open .ensures,
+    )
 
 same-length-3 : tie.Need-same-length-3 Inv-loop μ-loop
 same-length-3 c = let k = c .before .before .before in k .expand .ensures .shows .kept ∙ kept (asking (k .before .before .before .before))

@@ -11,7 +11,7 @@ use Rattle.search.proofs.step.arrival.Statement.{statement}
 use Rattle.search.proofs.step.arrival.Tie as tie
 
 price-requires : tie.Need-price-requires
-price-requires c κs = let s = c .before in fitting-priceable (s .pre .0) (s .pre .1 .0) (s .pre .1 .1 .0)
+price-requires c κs = let s = c .before in fitting-priceable (s .pre .0) (s .pre .1 .fitting) (s .pre .1 .allows)
 
 add-cost : tie.Need-add-cost
 add-cost c = search needs
@@ -20,8 +20,8 @@ next-requires : tie.Need-next-requires
 next-requires c κs =
     let s = c .before .before .before in (
       lawful-out (s .args .code) (s .pre .0 .sized .code) .memory-most,
-      s .pre .1 .0 .state,
-      fitting-priceable (s .pre .0) (s .pre .1 .0) (s .pre .1 .1 .0) .input-bit,
+      s .pre .1 .fitting .state,
+      fitting-priceable (s .pre .0) (s .pre .1 .fitting) (s .pre .1 .allows) .input-bit,
     )
 
 add-t9 : tie.Need-add-t9
@@ -32,8 +32,8 @@ returns c =
     let p = c .before .before .before in
     let s = p .before .before in
     let from = s .args .from in
-    let f = s .pre .1 .0 in
-    let bit = fitting-priceable (s .pre .0) f (s .pre .1 .1 .0) .input-bit in
+    let f = s .pre .1 .fitting in
+    let bit = fitting-priceable (s .pre .0) f (s .pre .1 .allows) .input-bit in
     let b = lawful-out (s .args .code) (s .pre .0 .sized .code) in (
       λ z. record {
         entry = entry (from .cost + p .price .ensures .0 z) (add-one (from .level) z) (c .before .next .ensures .0 z);
@@ -44,10 +44,10 @@ returns c =
       },
       record {
         cost = omega (arith, f .cost, p .price .ensures .1);
-        level = omega (arith, fitting-higher (s .pre .0) (from .level) (s .args .input) (s .pre .1 .1 .0), s .pre .0 .sized .long, b .memory-most);
+        level = omega (arith, fitting-higher (s .pre .0) (from .level) (s .args .input) (s .pre .1 .allows), s .pre .0 .sized .long, b .memory-most);
         state = state-small (s .pre .0) (c .before .next .ensures .1);
-        count = s .pre .1 .1 .2 .count;
-        parent = omega (arith, s .pre .1 .1 .1);
+        count = s .pre .1 .small .count;
+        parent = omega (arith, s .pre .1 .within);
         input = omega (arith, bit);
       },
     )

@@ -50,7 +50,7 @@ abbrev opening : tie.After-close Inv-loop μ-loop → List Row
 opening k = rowsOf (entry k .args .work .now) (entry k .args .n)
 
 inside : (k : tie.After-close Inv-loop μ-loop) → entry k .args .i < length (opening k)
-inside k = let s = entry k in omega (arith, length-rowsOf (s .args .work .now) (s .args .n), s .pre .1 .1 .0)
+inside k = let s = entry k in omega (arith, length-rowsOf (s .args .work .now) (s .args .n), s .pre .0 .within)
 
 -- the inputs that are tried are those that the row allows
 allows : (k : tie.After-close Inv-loop μ-loop) → allowing k .allowed .result ≡ allowed (trellis k) (nodeAt (opening k) (entry k .args .i) .level)
@@ -86,7 +86,7 @@ allowed-requires c κs = tt
 close-requires : tie.Need-close-requires Inv-loop μ-loop
 close-requires c κs =
     let s = c .before .before .before .before .before .before in
-    (s .pre .1 .0 .stored, (s .pre .1 .1 .0, s .pre .1 .1 .1 .1))
+    (s .pre .0 .roomy .stored, (s .pre .0 .within, s .pre .1))
 
 loop-holds : tie.Need-loop-holds Inv-loop μ-loop
 loop-holds c =
@@ -97,11 +97,11 @@ loop-holds c =
     let open-allows : allowing k .allowed .result ≡ allowed (trellis k) (nodeAt (closed (opening k) (s .args .i)) (s .args .i) .level) =
     allows k ∙ ap (λ (r : Row). allowed (trellis k) (r .entry .node .level)) (sym (C .here)) in
     record {
-      roomy = record { stored = h .stored; most = s .pre .1 .0 .most; lent = lent-on (h .kept) (s .pre .1 .0 .lent) };
+      roomy = record { stored = h .stored; most = s .pre .0 .roomy .most; lent = lent-on (h .kept) (s .pre .0 .roomy .lent) };
       kept = refl;
       fanning =
           subst (λ (l : List Row). Fanning (trellis k) cap (s .args .room) (s .args .i) (allowing k .allowed .result) l l 0) (sym (h .rows))
-          (fanning-start (safe-closed (omega arith) (s .pre .1 .1 .1 .0) (inside k)) (C .within) open-allows);
+          (fanning-start (safe-closed (omega arith) (s .pre .0 .safe) (inside k)) (C .within) open-allows);
     }
 
 relax-requires : tie.Need-relax-requires Inv-loop μ-loop
@@ -110,11 +110,13 @@ relax-requires c κs =
     let a = w .before in
     let s = entry (closing a) in
     let f = a .loop .inv .fanning in (
-      s .pre .0,
-      (
-        a .loop .inv .roomy,
-        (omega (arith, f .there, length-rowsOf (a .loop .work) (a .loop .rows)), (f .safe, omega (arith, f .allows, w .loop-test .taken))),
-      ),
+      record {
+        searchable = s .pre .0 .searchable;
+        roomy = a .loop .inv .roomy;
+        within = omega (arith, f .there, length-rowsOf (a .loop .work) (a .loop .rows));
+        safe = f .safe;
+      },
+      omega (arith, f .allows, w .loop-test .taken),
     )
 
 same-length : tie.Need-same-length Inv-loop μ-loop

@@ -27,21 +27,19 @@ row-requires c κs = search needs
 arrival-requires : tie.Need-arrival-requires
 arrival-requires c κs =
     let s = c .before .before .before .before in
+    let p = s .pre .0 in
     let rows = rowsOf (s .args .work .now) (s .args .n) in
     let t = trellisIn (s .args .code) (s .args .bits) (s .args .seen .now) in
-    let inside : s .args .i < length rows = omega (arith, length-rowsOf (s .args .work .now) (s .args .n), s .pre .1 .1 .0) in
-    let f : Fitting (s .args .code) (s .args .bits) (rowAt rows (s .args .i) .entry) =
-    safe-fitting (s .pre .0) (s .pre .1 .1 .1 .0 .each (s .args .i) inside) in
+    let inside : s .args .i < length rows = omega (arith, length-rowsOf (s .args .work .now) (s .args .n), p .within) in
+    let f : Fitting (s .args .code) (s .args .bits) (rowAt rows (s .args .i) .entry) = safe-fitting (p .searchable) (p .safe .each (s .args .i) inside) in
     let e : rowAt rows (s .args .i) ≡ rowOf (c .row .result) = sym (c .row .ensures .0) in (
-      s .pre .0,
-      (
-        subst (λ (r : Row). Fitting (s .args .code) (s .args .bits) (r .entry)) e f,
-        (
-          subst (λ (r : Row). s .args .input < allowed t (r .entry .node .level)) e (s .pre .1 .1 .1 .1),
-          omega (arith, s .pre .1 .0 .most, s .pre .1 .0 .lent .small, s .pre .1 .1 .0),
-          c .row .ensures .1,
-        ),
-      ),
+      p .searchable,
+      record {
+        fitting = subst (λ (r : Row). Fitting (s .args .code) (s .args .bits) (r .entry)) e f;
+        small = c .row .ensures .1;
+        within = omega (arith, p .roomy .most, p .roomy .lent .small, p .within);
+        allows = subst (λ (r : Row). s .args .input < allowed t (r .entry .node .level)) e (s .pre .1);
+      },
     )
 
 enter-requires : tie.Need-enter-requires

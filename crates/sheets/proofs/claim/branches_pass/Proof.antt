@@ -187,11 +187,12 @@ goes-on-requires : tie.Need-goes-on-requires Inv-loop μ-loop
 goes-on-requires c κs =
     let w = c .before .before in
     let a = w .before in
-    let s = start (entered a) in (
-      s .pre .0 .ordered,
-      omega (arith, level-left w, s .pre .0 .span, bounds s .memory-most),
-      omega (arith, c .next .ensures .1, pow-mono {i = s .args .code .memory} {j = 16} (bounds s .memory-most)),
-    )
+    let s = start (entered a) in
+    record {
+      ordered = s .pre .0 .ordered;
+      level-small = omega (arith, level-left w, s .pre .0 .span, bounds s .memory-most);
+      state-small = omega (arith, c .next .ensures .1, pow-mono {i = s .args .code .memory} {j = 16} (bounds s .memory-most));
+    }
 
 returns : tie.Need-returns Inv-loop μ-loop
 returns c =

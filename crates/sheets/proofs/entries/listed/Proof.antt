@@ -44,11 +44,11 @@ returns c =
     let at = entriesIn-at bytes place (c .before .if1 .taken) in
     let x : Node = node (s .args .level) (s .args .state) in
     let own : entryAt bytes (8 * place) .node ≡ x =
-    key-node (entryAt bytes (8 * place) .node) x (state-small bytes (λ i. k .shared-slice-known .given i .fits) (8 * place)) (s .pre .2)
+    key-node (entryAt bytes (8 * place) .node) x (state-small bytes (λ i. k .shared-slice-known .given i .fits) (8 * place)) (s .pre .state-small)
     (f .find .ensures .found (c .before .if1 .taken)) in
     c .cost .ensures .0
     ∙ ap (λ (e : Entry). e .cost) (sym at)
-    ∙ sym (listed-one (entriesIn bytes) (rising-test (entriesIn bytes) .out (true-in (rising (entriesIn bytes)) (s .pre .0)))
+    ∙ sym (listed-one (entriesIn bytes) (rising-test (entriesIn bytes) .out (true-in (rising (entriesIn bytes)) (s .pre .ordered)))
     (place-in noEntry (entriesIn bytes) place (omega (arith, length-entriesIn bytes, c .before .if1 .taken))))
     ∙ ap (listedCost (entriesIn bytes)) (ap (λ (e : Entry). e .node) at ∙ own)
 

@@ -54,7 +54,11 @@ listed-requires : tie.Need-listed-requires Inv-loop μ-loop
 listed-requires c κs =
     let w = c .before in
     let s = start w in
-    (s .pre .ordered, omega (arith, s .pre .short, w .loop-test .taken), s .pre .small (w .before .loop .level) (w .loop-test .taken))
+    record {
+      ordered = s .pre .ordered;
+      level-small = omega (arith, s .pre .short, w .loop-test .taken);
+      state-small = s .pre .small (w .before .loop .level) (w .loop-test .taken);
+    }
 
 mul-if1 : tie.Need-mul-if1 Inv-loop μ-loop
 mul-if1 c = let w = c .before .before in omega (arith, start w .pre .short, w .loop-test .taken)

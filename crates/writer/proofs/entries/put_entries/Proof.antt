@@ -34,17 +34,17 @@ within w = let s = entry (w .before) in omega (arith, there w .0, length-rowsOf 
 
 -- the buffer has room for an entry more
 fits : (w : tie.In-loop Inv-loop μ-loop) → w .before .loop .at + 8 ≤ length (w .before .loop .sheet)
-fits w = let a = w .before in omega (arith, a .loop .inv .kept, a .loop .inv .sized, entry a .pre .1 .1, w .loop-test .taken)
+fits w = let a = w .before in omega (arith, a .loop .inv .kept, a .loop .inv .sized, entry a .pre .1, w .loop-test .taken)
 
 -- ---- the answers
 
 loop-holds : tie.Need-loop-holds Inv-loop μ-loop
 loop-holds c =
     let s = c .before .before in
-    entries-start (rowsOf (s .args .work .now) (s .args .n)) (s .args .count) (s .args .place) (s .args .sheet .now) (s .pre .1 .0)
+    entries-start (rowsOf (s .args .work .now) (s .args .n)) (s .args .count) (s .args .place) (s .args .sheet .now) (s .pre .0 .listable)
 
 row-requires : tie.Need-row-requires Inv-loop μ-loop
-row-requires c κs = (entry (c .before) .pre .0, within c)
+row-requires c κs = (entry (c .before) .pre .0 .stored, within c)
 
 cast-put-entry : tie.Need-cast-put-entry Inv-loop μ-loop
 cast-put-entry c = omega (arith, c .before .before .row .ensures .1 .level)
@@ -61,7 +61,7 @@ put-entry-requires c κs = fits (c .before .before .before .before .before)
 next-closed-requires : tie.Need-next-closed-requires Inv-loop μ-loop
 next-closed-requires c κs =
     let w = c .before .before .before .before .before .before .before .before in
-    (entry (w .before) .pre .0, within w)
+    (entry (w .before) .pre .0 .stored, within w)
 
 add-at : tie.Need-add-at Inv-loop μ-loop
 add-at c =

@@ -180,7 +180,10 @@ put-sheet-requires c κs =
           most = omega (arith, sizes k .small);
           room = omega (arith, front-length t, sized t .if1 .left, sized t .before .sheet-size .ensures);
         },
-        (q .close .ensures .stored, shown-listable code l symbols (answer k) (s .args .message .now) (exit t) (t .trace .ensures) (q .close .ensures .rows)),
+        record {
+          stored = q .close .ensures .stored;
+          listable = shown-listable code l symbols (answer k) (s .args .message .now) (exit t) (t .trace .ensures) (q .close .ensures .rows);
+        },
       ),
     )
 

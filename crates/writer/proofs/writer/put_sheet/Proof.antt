@@ -30,7 +30,7 @@ put-entries-requires c κs =
     let p = z .before .before .before in
     let s = p .before .before .before .before .before .before .before .before .before in
     let h = p .before .before .before .before in
-    (s .pre .1 .1 .0, (s .pre .1 .1 .1, omega (arith, z .sheet-size .ensures, s .pre .1 .0 .room, p .put-message .kept .0, h .put-head .kept .0)))
+    (s .pre .1 .1, omega (arith, z .sheet-size .ensures, s .pre .1 .0 .room, p .put-message .kept .0, h .put-head .kept .0))
 
 same-length : tie.Need-same-length
 same-length c = search needs
