@@ -6,7 +6,7 @@ use borrow.Author.Tests.{leb-true}
 use lib.Dec.{leb}
 use Rattle.lists.specs.Lists.{all}
 use Rattle.lists.proofs.Scan.{all-within}
-pub use Rattle.lists.proofs.Tests.{both}
+use Rattle.lists.proofs.Tests.{both}
 use Rattle.codes.specs.Codes.{from, generatorsOf, lawful, houseCodes, houseCode}
 use Rattle.codes.specs.Limits.{fewestOutputs, mostOutputs, leastMemory, mostMemory}
 use Rattle.codes.specs.declared.table.Code.{Code}

@@ -23,9 +23,20 @@ pub agree : {a b : Bool} {P : Type 0} → Decides a P → Decides b P → a ≡ 
 agree {a = true} {b = b} d e = sym (true-out b (e .into (d .out tt)))
 agree {a = false} {b = b} d e = sym (false-out b (λ h. d .into (e .out h)))
 
+-- where the statement is known to hold, or to fail
+pub decided-yes : {a : Bool} {P : Type 0} → Decides a P → P → a ≡ true
+decided-yes {a} d p = true-out a (d .into p)
+
+pub decided-no : {a : Bool} {P : Type 0} → Decides a P → (P → ⊥) → a ≡ false
+decided-no {a} d n = false-out a (λ h. n (d .out h))
+
+-- for a test that is its own statement
+pub itself : (a : Bool) → Decides a (T a)
+itself a = record { out = (λ h. h); into = (λ h. h) }
+
 -- for 'and': one statement and the other
-pub both : {a b : Bool} {P Q : Type 0} → Decides a P → Decides b Q → Decides (a && b) (P × Q)
-both {a} {b} d e = record {
+pub together : {a b : Bool} {P Q : Type 0} → Decides a P → Decides b Q → Decides (a && b) (P × Q)
+together {a} {b} d e = record {
   out = (λ h. let r = and-out a b h in (d .out (r .0), e .out (r .1)));
   into = (λ h. and-in a b (d .into (h .0)) (e .into (h .1)));
 }

@@ -1,4 +1,3 @@
-pub mod Places
 pub mod Scan
 pub mod Writing
 pub mod Tests
@@ -6,6 +5,7 @@ pub mod Membership
 pub mod Unique
 pub mod Distinct
 pub mod Sorted
+pub mod Places
 pub mod Least
 pub mod Lexicographic
 pub mod Words

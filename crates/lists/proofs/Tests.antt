@@ -1,4 +1,4 @@
--- A computed test as a fact, T: how to split on it, its value, T of 'and' and 'or'.
+-- A computed test as a fact, T: how to split on it, its value, T of 'and' and 'or', and what two tests and the rest come to.
 -- Not here: tests on numbers (lib.Dec; borrow.Author.Tests), a test and its negation (T-not, not-T in lib.Dec). Assumes nothing.
 use mathlib.Core.Path.{_≡_, refl}
 use mathlib.Core.Logic.{_⊎_, inl, inr}
@@ -50,3 +50,17 @@ or-out false b h = inr h
 -- for tests that are compared with true, as contracts have them: the kit's law, this way only
 pub both : (a b : Bool) → (a && b) ≡ true → (a ≡ true) × (b ≡ true)
 both a b = and-eq-true-iff a b .0
+
+-- ---- two tests and the rest, for a loop that makes both in a turn
+
+-- the first fails
+pub first-fails : (a b rest : Bool) → a ≡ false → a && b && rest ≡ false
+first-fails a b rest e = rw e
+
+-- the second does
+pub second-fails : (a b rest : Bool) → a ≡ true → b ≡ false → a && b && rest ≡ false
+second-fails a b rest e f = rw (e, f)
+
+-- the rest decides
+pub both-pass : (a b rest : Bool) → a ≡ true → b ≡ true → a && b && rest ≡ rest
+both-pass a b rest e f = rw (e, f)

@@ -7,6 +7,7 @@ use native.Mathlib.Omega.{arith}
 use lib.Dec.{leb}
 use lib.ListN.{length}
 use Rattle.lists.specs.Lists.{all}
+use Rattle.lists.proofs.Tests.{both}
 use Rattle.codes.specs.Limits.{shortestMessage, longestMessage}
 use Rattle.codes.specs.Codes.{from, lawful, blockLength}
 use Rattle.codes.specs.Encoding.{told, encoding, sizesFit, isBit}
@@ -14,7 +15,7 @@ use Rattle.codes.specs.declared.table.Code.{Code}
 use Rattle.codes.specs.declared.encoder.Encoded.{Encoded}
 use Rattle.codes.specs.declared.encoder.Encoded.the-variants.{Done, BadCode, BadSize, Malformed}
 use Rattle.codes.proofs.Encodings.{encoding-bad-code, encoding-bad-size, encoding-malformed, encoding-done}
-use Rattle.codes.proofs.Rules.{both, from-out}
+use Rattle.codes.proofs.Rules.{from-out}
 use Rattle.blocks.specs.Bounds.{longestBlock}
 use Rattle.blocks.proofs.Weights.{block-short}
 use Rattle.plumtassel.specs.Face.{encoded}

@@ -10,7 +10,7 @@ use lib.ListN.{length}
 use lib.Ieee as Ieee
 use lib.Ieee.{Float}
 use borrow.Author.Tests.{ltb-true, ltb-false, leb-true}
-use Rattle.codes.proofs.Rules.{both}
+use Rattle.lists.proofs.Tests.{both}
 use Rattle.front.specs.Limits.{mostReadings}
 use Rattle.front.specs.Symbols.{plusZero, good}
 use Rattle.front.specs.Reports.{noReport}

@@ -66,7 +66,7 @@ module _ (c : Code) (l : ℕ) (symbols : List ℤ) (room allowance words : ℕ) 
       omega (
         arith,
         length-sheetBytes l (honestSheet t (take l (d .message))),
-        length-answered law room allowance (a .answerable .allowed) (a .answerable .roomy),
+        length-answered law room (a .answerable .roomy),
         sizes .long,
         sizes .small,
       )

@@ -14,7 +14,7 @@ use Rattle.codes.specs.Codes.{lawful}
 use Rattle.trellis.specs.Trellis.{Trellis}
 use Rattle.trellis.specs.Verdict.{words, messages}
 use Rattle.trellis.proofs.Messages.{words-in}
-use Rattle.trellis.proofs.SheetSound.{Alone, sheet-sound}
+use Rattle.trellis.proofs.SheetSound.{OnlyLeast, sheet-sound}
 use Rattle.blocks.specs.Symbols.{view}
 use Rattle.blocks.specs.Blocks.{trellisOf}
 use Rattle.blocks.proofs.Closing.{trellis-lawful}
@@ -73,21 +73,21 @@ module _ (c : Code) (l : ℕ) (symbols : List ℤ) (bytes message : List ℕ) wh
       go true true true true h s f q = record { code = h; sizes = s; form = f; claim = q }
 
   -- Accepted: the L bytes in front of the buffer are the only message of least metric, and the metric given is that metric.
-  pub check-sound : answer .number ≡ 0 → Alone t (answer .metric) (take l (answer .message))
+  pub check-sound : answer .number ≡ 0 → OnlyLeast t (answer .metric) (take l (answer .message))
   unfolding carried sheetRead
   check-sound z =
       let p : Passed = accepted-passed z in
       let e : answer ≡ handed 0 (sheetRead l bytes .metric) (sheetRead l bytes .message ++ drop l message) =
       checking-accepted c l symbols bytes message (p .code) (p .sizes) (p .form) (p .claim) in
-      subst₂ (Alone t) (ap (λ (x : Checking). x .metric) (sym e)) (sym (ap (λ (x : Checking). take l (x .message)) e ∙ front))
+      subst₂ (OnlyLeast t) (ap (λ (x : Checking). x .metric) (sym e)) (sym (ap (λ (x : Checking). take l (x .message)) e ∙ front))
       (sheet-sound (trellis-lawful c l (view symbols)) (sheetRead l bytes .entries) (message-read c l symbols bytes) (p .claim))
     where
       front : take l (sheetRead l bytes .message ++ drop l message) ≡ sheetRead l bytes .message
       front = take-at (sheetRead l bytes .message) (drop l message) l (length-series l (bitAt bytes))
 
   -- The same of the program's answer: where it is `Accepted m`, m is the least metric and the L bytes written are its only message.
-  pub accepted-alone : (m : ℕ) (exit : List ℕ) → told (Accepted m) exit ≡ answer → Alone t m (take l exit)
+  pub accepted-alone : (m : ℕ) (exit : List ℕ) → told (Accepted m) exit ≡ answer → OnlyLeast t m (take l exit)
   unfolding told
   accepted-alone m exit e =
-      subst₂ (Alone t) (ap (λ (x : Checking). x .metric) (sym e)) (ap (λ (x : Checking). take l (x .message)) (sym e))
+      subst₂ (OnlyLeast t) (ap (λ (x : Checking). x .metric) (sym e)) (ap (λ (x : Checking). take l (x .message)) (sym e))
       (check-sound (ap (λ (x : Checking). x .number) (sym e)))

@@ -14,7 +14,7 @@ use Rattle.lists.specs.Lists.{all}
 use Rattle.lists.proofs.Tests.{true-in}
 use Rattle.lists.proofs.Membership.{_∈_, Every}
 use Rattle.lists.proofs.Sorted.{Sorted}
-use Rattle.lists.proofs.Decides.{Decides, said, both, whenever, equal, less}
+use Rattle.lists.proofs.Decides.{Decides, said, together, whenever, equal, less, agree}
 use Rattle.codes.specs.declared.table.Code.{Code}
 use Rattle.codes.specs.Codes.{lawful}
 use Rattle.codes.proofs.Rules.{lawful-out}
@@ -23,7 +23,8 @@ use Rattle.trellis.specs.Verdict.{Entry, pathOf}
 use Rattle.trellis.specs.Sheet.{onto, carries}
 use Rattle.trellis.proofs.Paths.{node-path, allowed-top}
 use Rattle.trellis.proofs.Honest.{lower}
-use Rattle.trellis.proofs.SheetTests.{Listed, arrival, AllBranches, Onward, Dearer, Clear, branches-test, carries-test}
+use Rattle.trellis.proofs.Order.{mark}
+use Rattle.trellis.proofs.SheetTests.{Listed, AllBranches, Onward, Dearer, Clear, branches-test, carries-test}
 use Rattle.trellis.proofs.Parts.{parts}
 use Rattle.blocks.specs.Symbols.{Seen}
 use Rattle.blocks.specs.Blocks.{trellisOf}
@@ -31,7 +32,6 @@ use Rattle.blocks.proofs.Closing.{input-bit}
 use Rattle.sheets.specs.Bytes.{series, metricPlace, bitAt, sheetRead}
 use Rattle.sheets.specs.Checking.{rising, carried}
 use Rattle.sheets.specs.Steps.{absent, early, Walked, onPath, onward, clear, allPassing, tested}
-use Rattle.sheets.proofs.Agree.{agree}
 use Rattle.sheets.proofs.Series.{length-series}
 use Rattle.sheets.proofs.Numbers.{Bytes, numberAt-below}
 use Rattle.sheets.proofs.Octets.{Bits, bits-read}
@@ -46,7 +46,7 @@ all-series : {A : Type 0} (p : A → Bool) (P : ℕ → Type 0) (n : ℕ) (f : �
 unfolding all series
 all-series p P zero f d = record { out = (λ h j k. absurd (omega arith)); into = (λ h. tt) }
 all-series p P (suc n) f d =
-    said (both (d 0 (omega arith)) (all-series p (λ j. P (suc j)) n (λ i. f (suc i)) (λ j k. d (suc j) (omega arith))))
+    said (together (d 0 (omega arith)) (all-series p (λ j. P (suc j)) n (λ i. f (suc i)) (λ j k. d (suc j) (omega arith))))
     (λ h j k. first (h .0) (h .1) j k) (λ h. (h 0 (omega arith), λ j k. h (suc j) (omega arith)))
   where
     first : P 0 → ((j : ℕ) → j < n → P (suc j)) → (j : ℕ) → j < suc n → P j
@@ -78,13 +78,13 @@ module _ (c : Code) (l : ℕ) (block : List Seen) (es : List Entry) (m : ℕ) (w
   own = early w (l + c .memory)
 
   -- C: at each level the path's node is listed, its cost the metric so far
-  path-test : Decides (all (onPath es states metrics) (series (l + c .memory + 1) (λ j. j))) (Every (λ p. arrival t p ∈ es) (parts own))
+  path-test : Decides (all (onPath es states metrics) (series (l + c .memory + 1) (λ j. j))) (Every (λ p. mark t p ∈ es) (parts own))
   path-test =
-      said (all-series (onPath es states metrics) (λ j. arrival t (early w j) ∈ es) (l + c .memory + 1) (λ j. j) (λ j h. level-test j (omega arith)))
-      (λ h. every-part (λ p. arrival t p ∈ es) w (l + c .memory) (λ j h′. h j (omega arith)))
+      said (all-series (onPath es states metrics) (λ j. mark t (early w j) ∈ es) (l + c .memory + 1) (λ j. j) (λ j h. level-test j (omega arith)))
+      (λ h. every-part (λ p. mark t p ∈ es) w (l + c .memory) (λ j h′. h j (omega arith)))
       (λ h j h′. h (early w j) (parts-early w (l + c .memory) j (omega arith)))
     where
-      level-test : (j : ℕ) → j ≤ l + c .memory → Decides (onPath es states metrics j) (arrival t (early w j) ∈ es)
+      level-test : (j : ℕ) → j ≤ l + c .memory → Decides (onPath es states metrics j) (mark t (early w j) ∈ es)
       level-test j h =
           let here : getD metrics j 0 ≡ metric t (early w j) = k .walked .metrics-at j h in
           let there : node j (getD states j 0) ≡ endNode t (early w j) = node-path (sym (length-early w j)) (k .walked .states-at j h) in
@@ -104,7 +104,7 @@ module _ (c : Code) (l : ℕ) (block : List Seen) (es : List Entry) (m : ℕ) (w
   entries-test : Decides (all (allPassing t es m states metrics) es) (AllBranches t es (λ e b. Onward t m es e b × Apart e b))
   unfolding allPassing
   entries-test =
-      branches-test t es (λ e b. both (onward-test es (k .ordered) m (k .small) (onto t e b))
+      branches-test t es (λ e b. together (onward-test es (k .ordered) m (k .small) (onto t e b))
       (whenever (equal (onto t e b .node .state) (getD states (e .node .level + 1) 0)) (equal (e .node .state) (getD states (e .node .level) 0))
       (less (getD metrics (e .node .level + 1) 0) (onto t e b .cost))))
 
@@ -150,7 +150,7 @@ module _ (c : Code) (l : ℕ) (block : List Seen) (es : List Entry) (m : ℕ) (w
   claim-tests =
       ap (carries t m es) (sym (early-path t w (k .size)))
       ∙ agree (carries-test t m es own)
-      (said (both (both path-test (equal (getD metrics (l + c .memory) 0) m)) entries-test)
+      (said (together (together path-test (equal (getD metrics (l + c .memory) 0) m)) entries-test)
       (λ h. record {
         begun = h .0 .0 [] (parts-early w (l + c .memory) 0 (omega arith));
         onward = (λ e x b u. h .1 e x b u .0);

@@ -7,7 +7,7 @@ use native.Mathlib.Nat.{mod-one}
 use native.Mathlib.Decide.{ℕ-discrete}
 use native.Mathlib.Omega.{arith}
 use lib.ListN.{length, getD, drop, drop-of-length-le}
-use Rattle.lists.proofs.Decides.{Decides, said, both, equal}
+use Rattle.lists.proofs.Decides.{Decides, said, together, equal}
 use Rattle.trellis.specs.Verdict.{Entry}
 use Rattle.sheets.specs.Bytes.{series, bytesOf, kind, messageSize, octet, messageBytes, entryBytes, following, sheetBytes}
 use Rattle.sheets.specs.Bytes.{numberAt, countPlace, messagePlace, entriesPlace, bitAt, entryAt, sheetRead}
@@ -26,7 +26,7 @@ unfolding alike
 alike-test [] [] = record { out = (λ h. refl); into = (λ e. tt) }
 alike-test [] (y ∷ ys) = record { out = (λ h. absurd h); into = (λ e. let z : _≡_ {A = ℕ} 0 1 = cc in absurd (omega arith)) }
 alike-test (x ∷ xs) [] = record { out = (λ h. absurd h); into = (λ e. let z : _≡_ {A = ℕ} 0 1 = cc in absurd (omega arith)) }
-alike-test (x ∷ xs) (y ∷ ys) = said (both (equal x y) (alike-test xs ys)) (λ h. λ z. h .0 z ∷ h .1 z) (λ e. (cc, cc))
+alike-test (x ∷ xs) (y ∷ ys) = said (together (equal x y) (alike-test xs ys)) (λ h. λ z. h .0 z ∷ h .1 z) (λ e. (cc, cc))
 
 -- ---- the frame
 

@@ -14,6 +14,7 @@ use lib.Pow.{pow-mono}
 use Rattle.lists.specs.Lists.{all}
 use Rattle.lists.proofs.Tests.{true-out, and-in}
 use Rattle.lists.proofs.Membership.{_∈_, here, Every, all-in, member-length}
+use Rattle.lists.proofs.Places.{place-in}
 use Rattle.codes.specs.declared.table.Code.{Code}
 use Rattle.codes.specs.Codes.{from}
 use Rattle.codes.proofs.Rules.{lawful-out}
@@ -34,7 +35,6 @@ use Rattle.sheets.specs.Checking.{alike, framed, mostEntries, rising, in
 use Rattle.sheets.proofs.Octets.{Bits}
 use Rattle.sheets.proofs.Written.{EntryFits, Fits, read-written}
 use Rattle.sheets.proofs.Frame.{alike-test}
-use Rattle.trellis.proofs.Places.{place-in}
 use Rattle.sheets.proofs.Listing.{rising-test}
 use Rattle.sheets.proofs.Rows.{Formed, formed-in, sizes-test, checking-accepted}
 

@@ -3,7 +3,6 @@ pub mod Numbers
 pub mod Octets
 pub mod Written
 pub mod Frame
-pub mod Agree
 pub mod Listing
 pub mod Costs
 pub mod Walks

@@ -3,8 +3,7 @@ use mathlib.Core.Path.{_≡_, refl, sym, ap, _∙_, subst₂}
 use mathlib.Core.Logic.{_⊎_, inl, inr}
 use mathlib.Core.List.{List, [], _∷_}
 use mathlib.Core.Bool.{true, false, _&&_}
-use Prim.Native.Nat.{ℕ, zero, suc, _+_, _*_, _/_, _-_, _≤_, _<_}
-use native.Mathlib.Nat.{le-of-suc-le-suc}
+use Prim.Native.Nat.{ℕ, suc, _+_, _*_, _/_, _-_, _≤_, _<_}
 use native.Mathlib.Numerals.{add-one}
 use native.Mathlib.Omega.{arith}
 use lib.Dec.{T}
@@ -14,18 +13,17 @@ use Rattle.lists.proofs.Tests.{true-in}
 use Rattle.lists.proofs.Membership.{here, nil-out, every-cons}
 use Rattle.lists.proofs.Lexicographic.{compared}
 use Rattle.lists.proofs.Sorted.{Sorted}
-use Rattle.lists.proofs.Decides.{Decides, said, both}
+use Rattle.lists.proofs.Places.{sorted-places}
+use Rattle.lists.proofs.Decides.{Decides, said, together, itself}
 use Rattle.trellis.specs.Trellis.{Node}
 use Rattle.trellis.specs.Verdict.{Entry, entry, earlier}
 use Rattle.trellis.proofs.Order.{Earlier, earlier-in, earlier-out, earlier-order}
 use Rattle.trellis.proofs.Honest.{lower}
-use Rattle.trellis.proofs.Places.{place-in}
 use Rattle.trellis.proofs.Listing.{noEntry}
 use Rattle.sheets.specs.Bytes.{series, numberAt, countPlace, entriesPlace, entryAt, sheetRead}
 use Rattle.sheets.specs.Checking.{rising}
 use Rattle.sheets.specs.Steps.{entriesIn, keyOf}
 use Rattle.sheets.proofs.Series.{length-series, getD-series, series-same}
-use Rattle.sheets.proofs.Agree.{itself}
 use Rattle.sheets.proofs.Numbers.{Bytes, numberAt-drop, numberAt-below}
 
 -- ---- places
@@ -68,25 +66,18 @@ unfolding rising
 rising-test [] = record { out = (λ h. tt); into = (λ h. tt) }
 rising-test (e ∷ []) = record { out = (λ h. (λ a m. absurd (nil-out m), tt)); into = (λ h. tt) }
 rising-test (e ∷ f ∷ es) =
-    said (both (itself (lower e f)) (rising-test (f ∷ es)))
+    said (together (itself (lower e f)) (rising-test (f ∷ es)))
     (λ h. (every-cons (λ y. T (lower e y)) (h .0) (λ a m. earlier-order .trans (e .node) (f .node) (a .node) (h .0) (h .1 .0 a m)), h .1))
     (λ h. (h .0 f (here refl), h .1))
 
--- for a search by halving: places in order
-sorted-places : (es : List Entry) → Sorted lower es → (i j : ℕ) (d : Entry) → i < j → j < length es → T (lower (getD es i d) (getD es j d))
-sorted-places [] s i j d h k = absurd (omega arith)
-sorted-places (e ∷ es) s i zero d h k = absurd (omega arith)
-sorted-places (e ∷ es) s zero (suc j) d h k = s .0 (getD es j d) (place-in d es j (le-of-suc-le-suc k))
-sorted-places (e ∷ es) s (suc i) (suc j) d h k = sorted-places es (s .1) i j d (le-of-suc-le-suc h) (le-of-suc-le-suc k)
-
--- so keys rise with the places
+-- for a search by halving: keys rise with the places
 pub keys-rise : (bytes : List ℕ) → Bytes bytes → rising (entriesIn bytes) ≡ true → (i j : ℕ) → i < j → j < length bytes / 8
     → keyOf (entryAt bytes (8 * i) .node) < keyOf (entryAt bytes (8 * j) .node)
 keys-rise bytes b r i j h k =
     let es : List Entry = entriesIn bytes in
     earlier-key (entryAt bytes (8 * i) .node) (entryAt bytes (8 * j) .node) (state-small bytes b (8 * i)) (state-small bytes b (8 * j)) .out
     (subst₂ (λ (x y : Entry). T (lower x y)) (entriesIn-at bytes i (omega arith)) (entriesIn-at bytes j k)
-    (sorted-places es (rising-test es .out (true-in (rising es) r)) i j noEntry h (omega (arith, length-entriesIn bytes))))
+    (sorted-places noEntry lower es (rising-test es .out (true-in (rising es) r)) i j h (omega (arith, length-entriesIn bytes))))
 
 -- and two neighbours are in order exactly if their keys are
 pub neighbours-test : (bytes : List ℕ) → Bytes bytes → (i : ℕ) → i + 1 < length bytes / 8

@@ -8,7 +8,7 @@ use lib.IntN.{ℤ}
 use lib.ListN.{length, drop}
 use Rattle.lists.specs.Lists.{all}
 use Rattle.lists.proofs.Tests.{both}
-use Rattle.lists.proofs.Decides.{Decides, said, both as decided-both, equal, atMost}
+use Rattle.lists.proofs.Decides.{Decides, said, together, equal, atMost}
 use Rattle.codes.specs.declared.table.Code.{Code}
 use Rattle.codes.specs.Limits.{shortestMessage, longestMessage}
 use Rattle.codes.specs.Codes.{from, lawful, blockLength}
@@ -74,7 +74,7 @@ pub record Sizes (c : Code) (l symbols room : ℕ) : Type 0 where
 -- for both ways: the test says just that
 pub sizes-test : (c : Code) (l symbols room : ℕ) → Decides (sizesFit c l symbols room) (Sizes c l symbols room)
 sizes-test c l symbols room =
-    said (decided-both (decided-both (decided-both (atMost shortestMessage l) (atMost l longestMessage)) (equal symbols (blockLength c l))) (atMost l room))
+    said (together (together (together (atMost shortestMessage l) (atMost l longestMessage)) (equal symbols (blockLength c l))) (atMost l room))
     (λ h. record { some = h .0 .0 .0; span = h .0 .0 .1; full = h .0 .1; fits = h .1 })
     (λ s. (((s .some, s .span), s .full), s .fits))
 

@@ -7,7 +7,7 @@ use Prim.Native.Nat.{ℕ, _+_, _*_, _/_, _%_, _^_, _<_}
 use native.Mathlib.Omega.{arith}
 use lib.Dec.{eqb, ltb}
 use borrow.Author.Tests.{eq-eqb, ne-eqb}
-use Rattle.lists.proofs.Decides.{said, agree, both, equal, less}
+use Rattle.lists.proofs.Decides.{said, agree, together, equal, less}
 use Rattle.lists.proofs.Lexicographic.{compared}
 use Rattle.trellis.specs.Trellis.{node, same}
 use Rattle.trellis.specs.Verdict.{entry, earlier, before}
@@ -104,6 +104,6 @@ pub same-words : (order level state : ℕ) → level < 2 ^ 10 → state < 2 ^ 16
     → same (entryFrom order .node) (node level state) ≡ eqb (order % nodes) (level * states + state)
 same-words order level state h k =
     agree
-    (said (both (equal (order / states % levels) level) (equal (order % states) state))
+    (said (together (equal (order / states % levels) level) (equal (order % states) state))
     (λ p. omega (arith, p .0, p .1)) (λ e. (omega (arith, e), omega (arith, e))))
     (equal (order % nodes) (level * states + state))

@@ -10,6 +10,7 @@ use native.Mathlib.Omega.{arith}
 use lib.ListN.{length, take, length-take, length-map}
 use Rattle.lists.proofs.Membership.{_∈_, here, append-left, append-right, append-out, singleton-out, member-cast, map-in}
 use Rattle.lists.proofs.Unique.{length-within}
+use Rattle.lists.proofs.Places.{place-in}
 use Rattle.trellis.specs.Trellis.{Trellis, terminal}
 use Rattle.trellis.specs.Verdict.{Entry, entry, ranked, steps, met, leastMetric}
 use Rattle.trellis.specs.Sheet.{honest}
@@ -17,7 +18,6 @@ use Rattle.trellis.specs.Lawful.{Lawful}
 use Rattle.trellis.specs.Search.{Row, noRow, rowAt, entryAt, nodeAt, costAt, firstOpen, shut, closed, found, Ended, searched}
 use Rattle.trellis.proofs.Messages.{terminal-reached}
 use Rattle.trellis.proofs.MetNodes.{front-unique, ranked-met, steps-few}
-use Rattle.trellis.proofs.Places.{place-in}
 use Rattle.trellis.proofs.HonestRanked.{honest-front, front-honest, length-honest}
 use Rattle.trellis.proofs.Rows.{Changed, set-changed, First, firstOpen-unique}
 use Rattle.trellis.proofs.Table.{Stored}
@@ -133,6 +133,5 @@ length-holds {t} law {rows} H =
     omega (arith, length-take (suc (steps t)) (ranked t), steps-few t (terminal-reached law), length-map rows (λ (r : Row). r .entry))
 
 -- so where a decode answers, the honest sheet has no more entries than there is room
-pub length-answered : {t : Trellis} → Lawful t → (room allowance : ℕ) → steps t ≤ allowance → met t (steps t) ≤ room
-    → length (honest t (leastMetric t)) ≤ room
-length-answered {t} law room allowance h k = omega (arith, length-honest law, ranked-met t (steps t) (steps-few t (terminal-reached law)))
+pub length-answered : {t : Trellis} → Lawful t → (room : ℕ) → met t (steps t) ≤ room → length (honest t (leastMetric t)) ≤ room
+length-answered {t} law room h = omega (arith, length-honest law, ranked-met t (steps t) (steps-few t (terminal-reached law)))

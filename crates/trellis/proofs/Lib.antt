@@ -11,7 +11,6 @@ pub mod Ranked
 pub mod Messages
 pub mod Bounds
 pub mod SearchCases
-pub mod Places
 pub mod Rows
 pub mod Step
 pub mod MetNodes

@@ -2,7 +2,7 @@
 -- place d of the entry and the row k that holds it. Assumes nothing.
 use mathlib.Core.Path.{_≡_, sym, ap, _∙_, subst}
 use mathlib.Core.Logic.{_⊎_, inl, inr}
-use mathlib.Core.List.{List, [], _∷_}
+use mathlib.Core.List.{List}
 use Prim.Native.Nat.{ℕ, zero, suc, _<_}
 use native.Mathlib.Omega.{arith}
 use lib.Dec.{T}
@@ -10,6 +10,7 @@ use lib.ListN.{length, getD}
 use Rattle.lists.proofs.Membership.{_∈_}
 use Rattle.lists.proofs.Lexicographic.{compared}
 use Rattle.lists.proofs.Sorted.{Sorted}
+use Rattle.lists.proofs.Places.{Place, place-out, place-in, sorted-places}
 use Rattle.trellis.specs.Trellis.{Trellis, Node, origin}
 use Rattle.trellis.specs.Verdict.{Entry, entry, earlier}
 use Rattle.trellis.specs.Sheet.{honest}
@@ -17,7 +18,6 @@ use Rattle.trellis.specs.Search.{Row, entryAt, nodeAt, nextClosed}
 use Rattle.trellis.proofs.Cost.{cost-origin}
 use Rattle.trellis.proofs.Order.{Earlier, earlier-out, earlier-order}
 use Rattle.trellis.proofs.Honest.{lower, honest-in, honest-sorted}
-use Rattle.trellis.proofs.Places.{Place, place-out, place-in}
 use Rattle.trellis.proofs.Table.{Stored}
 use Rattle.trellis.proofs.NextClosed.{After, Following, nextClosed-is}
 use Rattle.trellis.proofs.HonestRows.{Holds}
@@ -29,14 +29,6 @@ noEntry = entry 0 0 0
 -- entry d of a sheet
 abbrev pub entryOf : List Entry → ℕ → Entry
 entryOf sheet d = getD sheet d noEntry
-
--- a sorted sheet's entries rise with their places
-sheet-rises : (sheet : List Entry) → Sorted lower sheet → (i k : ℕ) → i < k → k < length sheet → T (lower (entryOf sheet i) (entryOf sheet k))
-sheet-rises [] s i k h l = absurd (omega arith)
-sheet-rises (x ∷ sheet) s zero zero h l = absurd (omega arith)
-sheet-rises (x ∷ sheet) s zero (suc k) h l = s .0 (entryOf sheet k) (place-in noEntry sheet k (omega arith))
-sheet-rises (x ∷ sheet) s (suc i) zero h l = absurd (omega arith)
-sheet-rises (x ∷ sheet) s (suc i) (suc k) h l = sheet-rises sheet (s .1) i k (omega arith) (omega arith)
 
 -- the order of nodes that are given in another way
 earlier-cast : {a b x y : Node} → x ≡ a → y ≡ b → T (earlier a b) → T (earlier x y)
@@ -50,7 +42,7 @@ pub record Listing (sheet : List Entry) (rows : List Row) (d k : ℕ) : Type 0 w
 module _ {sheet : List Entry} {rows : List Row} (H : Holds sheet rows) (sorted : Sorted lower sheet) where
   -- so do those of this sheet
   rises : (i k : ℕ) → i < k → k < length sheet → T (lower (entryOf sheet i) (entryOf sheet k))
-  rises i k h l = sheet-rises sheet sorted i k h l
+  rises i k h l = sorted-places noEntry lower sheet sorted i k h l
 
   -- no later than itself
   lower-never : (x y : Entry) → T (lower x y) → T (lower y x) → ⊥

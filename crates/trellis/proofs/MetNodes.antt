@@ -14,6 +14,7 @@ use Rattle.lists.proofs.Membership.{Mapped, map-out, FlatMapped, flatMap-in, fl
 use Rattle.lists.proofs.Unique.{Unique, map-unique, length-within, same-length}
 use Rattle.lists.proofs.Distinct.{distinct-in, distinct-out, distinct-unique}
 use Rattle.lists.proofs.Sorted.{Sorted, take-sorted, take-or-after, take-before, sorted-unique, keep-before}
+use Rattle.lists.proofs.Places.{place-out}
 use Rattle.trellis.specs.Trellis.{Trellis, Node, same, origin, terminal, allowed, successors, cost}
 use Rattle.trellis.specs.Verdict.{Entry, priced, before, ranked, steps, met}
 use Rattle.trellis.specs.Sheet.{onto}
@@ -22,7 +23,6 @@ use Rattle.trellis.proofs.Cost.{Cost, cost-is, cost-computed, cost-uniq
 use Rattle.trellis.proofs.Recurrence.{successors-in, successors-out, reached-origin}
 use Rattle.trellis.proofs.Order.{before-order, entry-path}
 use Rattle.trellis.proofs.Ranked.{Priced, ranked-in, ranked-out, ranked-sorted, foregoer}
-use Rattle.trellis.proofs.Places.{place-out}
 use Rattle.trellis.proofs.Step.{Closed}
 
 -- ---- the nodes met

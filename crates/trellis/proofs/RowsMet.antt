@@ -8,10 +8,10 @@ use native.Mathlib.Omega.{arith}
 use lib.ListN.{length, length-map}
 use Rattle.lists.proofs.Membership.{_∈_, here, further, member-cast, Within, map-in, map-out, Mapped}
 use Rattle.lists.proofs.Unique.{Unique}
+use Rattle.lists.proofs.Places.{place-out, place-in, places-unique}
 use Rattle.trellis.specs.Trellis.{Trellis, Node, origin}
 use Rattle.trellis.specs.Verdict.{Entry, met}
 use Rattle.trellis.specs.Search.{Row, noRow, rowAt, entryAt}
-use Rattle.trellis.proofs.Places.{place-out, place-in, places-unique}
 use Rattle.trellis.proofs.MetNodes.{metNodes, Met, met-in, met-out, length-some-met, length-all-met}
 use Rattle.trellis.proofs.Sharing.{Branch, branch, lands}
 use Rattle.trellis.proofs.Table.{Link, Table, Covered, Taken}

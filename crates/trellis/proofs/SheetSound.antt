@@ -67,12 +67,12 @@ module _ (t : Trellis) (m : ℕ) (sheet : List Entry) (own : Path) (ok : Carries
 -- ---- messages
 
 -- the message is the only one of least metric, and m is that metric
-pub record Alone (t : Trellis) (m : ℕ) (w : List ℕ) : Type 0 where
+pub record OnlyLeast (t : Trellis) (m : ℕ) (w : List ℕ) : Type 0 where
   pub metric : leastMetric t ≡ m
   pub message : leastMessages t ≡ w ∷ []
 
 -- for the check: who wrote the sheet does not matter
-pub sheet-sound : {t : Trellis} → Lawful t → {m : ℕ} (sheet : List Entry) {w : List ℕ} → w ∈ messages t → carries t m sheet (pathOf t w) ≡ true → Alone t m w
+pub sheet-sound : {t : Trellis} → Lawful t → {m : ℕ} (sheet : List Entry) {w : List ℕ} → w ∈ messages t → carries t m sheet (pathOf t w) ≡ true → OnlyLeast t m w
 sheet-sound {t} law {m} sheet {w} member accepted = record {
   metric = leastMetric-is law least;
   message = leastMessages-one law least paths ∙ ap (λ (v : List ℕ). v ∷ []) (messageOf-pathOf t w);

@@ -9,13 +9,12 @@ use Prim.Native.Nat.{ℕ, _≤_, _<_}
 use native.Mathlib.Omega.{arith}
 use Rattle.lists.specs.Lists.{below}
 use Rattle.lists.proofs.Membership.{_∈_, here, further, nil-out, member-cast, Every, every-cons, below-in, below-out}
-use Rattle.lists.proofs.Decides.{Decides, said, both, either, whenever, each, some, equal, less, atMost}
+use Rattle.lists.proofs.Decides.{Decides, said, together, either, whenever, each, some, equal, less, atMost}
 use Rattle.trellis.specs.Trellis.{Trellis, Path, Node, same, allowed, ends, along, metric, endNode}
 use Rattle.trellis.specs.Verdict.{Entry, entry}
 use Rattle.trellis.specs.Sheet.{listedAs, listedWithin, onto, allBranches, conditionA, conditionB, conditionC, conditionD, carries}
 use Rattle.trellis.proofs.Paths.{node-path}
 use Rattle.trellis.proofs.Order.{entry-path, mark}
-pub use Rattle.trellis.proofs.Order.{mark as arrival}
 use Rattle.trellis.proofs.Parts.{parts}
 
 -- ---- being listed
@@ -23,14 +22,14 @@ use Rattle.trellis.proofs.Parts.{parts}
 -- for every test that looks for a node
 same-test : (x y : Node) → Decides (same x y) (x ≡ y)
 same-test x y =
-    said (both (equal (x .level) (y .level)) (equal (x .state) (y .state)))
+    said (together (equal (x .level) (y .level)) (equal (x .state) (y .state)))
     (λ h. node-path (h .0) (h .1)) (λ e. (ap (λ (z : Node). z .level) e, ap (λ (z : Node). z .state) e))
 
 -- for A and C: listed with just this cost
 pub listedAs-test : (sheet : List Entry) (e : Entry) → Decides (listedAs sheet (e .node) (e .cost)) (e ∈ sheet)
 unfolding listedAs
 listedAs-test sheet e =
-    said (some (λ f. both (same-test (f .node) (e .node)) (equal (f .cost) (e .cost))) sheet)
+    said (some (λ f. together (same-test (f .node) (e .node)) (equal (f .cost) (e .cost))) sheet)
     (λ f. member-cast (entry-path (sym (f .2 .1)) (sym (f .2 .0))) (f .1)) (λ m. (e, m, (refl, refl)))
 
 -- for B: listed with a cost of at most this
@@ -43,7 +42,7 @@ pub record Listed (sheet : List Entry) (x : Node) (c : ℕ) : Type 0 where
 pub listedWithin-test : (sheet : List Entry) (x : Node) (c : ℕ) → Decides (listedWithin sheet x c) (Listed sheet x c)
 unfolding listedWithin
 listedWithin-test sheet x c =
-    said (some (λ f. both (same-test (f .node) x) (atMost (f .cost) c)) sheet)
+    said (some (λ f. together (same-test (f .node) x) (atMost (f .cost) c)) sheet)
     (λ f. record { cost = f .0 .cost; here = member-cast (entry-path refl (sym (f .2 .0))) (f .1); small = f .2 .1 })
     (λ l. (record { cost = l .cost; node = x }, l .here, (refl, l .small)))
 
@@ -56,7 +55,7 @@ first-part Q d = said d (λ h. every-cons Q h (λ p m. absurd (nil-out m))) (λ 
 -- one part more
 more-parts : (Q : Path → Type 0) {a : ℕ} {p : Path} {test tests : Bool} → Decides test (Q (a ∷ p)) → Decides tests (Every Q (parts p))
     → Decides (test && tests) (Every Q (parts (a ∷ p)))
-more-parts Q {a} {p} d e = said (both d e) (λ h. every-cons Q (h .0) (h .1)) (λ h. (h (a ∷ p) (here refl), λ q m. h q (further m)))
+more-parts Q {a} {p} d e = said (together d e) (λ h. every-cons Q (h .0) (h .1)) (λ h. (h (a ∷ p) (here refl), λ q m. h q (further m)))
 
 -- ---- the conditions
 
@@ -121,7 +120,7 @@ conditionD-test t sheet [] = first-part (Clear t sheet) (record { out = (λ h. t
 conditionD-test t sheet (a ∷ p) =
     more-parts (Clear t sheet)
     (branches-test t sheet (λ e b.
-    whenever (same-test (onto t e b .node) (endNode t (a ∷ p))) (both (equal (e .node .state) (ends t p)) (equal b a))
+    whenever (same-test (onto t e b .node) (endNode t (a ∷ p))) (together (equal (e .node .state) (ends t p)) (equal b a))
     (less (metric t (a ∷ p)) (onto t e b .cost))))
     (conditionD-test t sheet p)
 
@@ -130,7 +129,7 @@ pub carries-test : (t : Trellis) (m : ℕ) (sheet : List Entry) (own : Path) →
 unfolding carries
 carries-test t m sheet own =
     said
-    (both (both (both (conditionA-test sheet) (conditionB-test t m sheet)) (both (conditionC-test t sheet own) (equal (metric t own) m)))
+    (together (together (together (conditionA-test sheet) (conditionB-test t m sheet)) (together (conditionC-test t sheet own) (equal (metric t own) m)))
     (conditionD-test t sheet own))
     (λ h. record { begun = h .0 .0 .0; onward = h .0 .0 .1; listed = h .0 .1 .0; paid = h .0 .1 .1; clear = h .1 })
     (λ k. (((k .begun, k .onward), (k .listed, k .paid)), k .clear))

@@ -11,12 +11,12 @@ use mir.Val.{SFits}
 use lib.IntN.{ℤ}
 use lib.ListN.{length, take, drop}
 use lib.Seq.{take-at}
+use Rattle.lists.proofs.Tests.{both}
+use Rattle.lists.proofs.Membership.{Every}
 use Rattle.codes.specs.declared.table.Code.{Code}
 use Rattle.codes.specs.Limits.{shortestMessage, longestMessage}
 use Rattle.codes.specs.Codes.{from}
 use Rattle.codes.proofs.Rules.{from-out}
-use Rattle.lists.proofs.Tests.{both}
-use Rattle.lists.proofs.Membership.{Every}
 use Rattle.trellis.specs.Trellis.{Trellis}
 use Rattle.trellis.specs.Verdict.{steps, messages}
 use Rattle.trellis.proofs.Messages.{metricOf, words-out}
@@ -102,7 +102,7 @@ module _ (c : Code) (l : ℕ) (symbols : List ℤ) (room allowance words : ℕ) 
           some = from-out shortestMessage longestMessage l (both (from shortestMessage longestMessage l) _ (a .sizes) .0) .0;
           room = k;
           one = alone-in (a .answerable .alone);
-          few = omega (arith, length-answered (trellis-lawful c l (view symbols)) room allowance (a .answerable .allowed) (a .answerable .roomy), f .small);
+          few = omega (arith, length-answered (trellis-lawful c l (view symbols)) room (a .answerable .roomy), f .small);
         }
 
   -- Every sheet that is written is accepted: the check, for the same code, L and symbols and any buffer that holds L bytes, gives the

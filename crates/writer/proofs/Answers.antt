@@ -9,12 +9,13 @@ use lib.IntN.{ℤ}
 use lib.ListN.{length, take, drop, length-set, drop-of-length-le}
 use lib.Seq.{drop-cons, take-at}
 use lib.Dec.{le→leb}
-use Rattle.codes.specs.declared.table.Code.{Code}
-use Rattle.codes.specs.Codes.{lawful}
-use Rattle.codes.specs.Encoding.{isBit}
 use Rattle.lists.specs.Lists.{all}
 use Rattle.lists.proofs.Tests.{true-out}
 use Rattle.lists.proofs.Membership.{all-in}
+use Rattle.lists.proofs.Places.{place-in}
+use Rattle.codes.specs.declared.table.Code.{Code}
+use Rattle.codes.specs.Codes.{lawful}
+use Rattle.codes.specs.Encoding.{isBit}
 use Rattle.trellis.specs.Trellis.{Trellis, Path, top, terminal}
 use Rattle.trellis.specs.Verdict.{Entry, leastMetric, messages}
 use Rattle.trellis.specs.Sheet.{honest}
@@ -22,7 +23,6 @@ use Rattle.trellis.specs.Lawful.{Lawful, messageOf}
 use Rattle.trellis.specs.Search.{Row, rowAt, nodeAt, nextClosed, shut, closed, searched, trace}
 use Rattle.trellis.proofs.Paths.{Ends}
 use Rattle.trellis.proofs.Messages.{words-out, Word, messageOf-in}
-use Rattle.trellis.proofs.Places.{place-in}
 use Rattle.trellis.proofs.Found.{Right}
 use Rattle.trellis.proofs.Trace.{length-trace}
 use Rattle.trellis.proofs.Searched.{searched-right}

@@ -7,8 +7,8 @@ use borrow.Author.Tests.{lt-ltb, le-ltb}
 use lib.IntN.{ℤ}
 use lib.ListN.{length, take}
 use lib.Seq.{sets}
-use Rattle.codes.specs.declared.table.Code.{Code}
 use Rattle.lists.proofs.Writing.{sets-front}
+use Rattle.codes.specs.declared.table.Code.{Code}
 use Rattle.blocks.specs.Symbols.{view}
 use Rattle.blocks.specs.Blocks.{trellisOf}
 use Rattle.search.specs.Decoding.{decoding}

@@ -10,12 +10,13 @@ use lib.ListN.{length, getD, take}
 use lib.Pow.{pow-pos}
 use lib.Seq.{sets, length-take-le}
 use Rattle.lists.proofs.Scan.{all-getD}
+use Rattle.lists.proofs.Tests.{both}
 use Rattle.codes.specs.Limits.{mostMemory, shortestMessage, longestMessage}
 use Rattle.codes.specs.Codes.{from, generatorsOf, registerOf, nextState, branchOutputs, outputsFrom, withTail, codeword, blockLength}
 use Rattle.codes.specs.Encoding.{isBit}
 use Rattle.codes.proofs.Codewords.{Writing, writing-start, writing-next, writing-done, branch-fits}
 use Rattle.codes.proofs.Codewords.{withTail-at, length-withTail, length-codeword}
-use Rattle.codes.proofs.Rules.{Bounds, lawful-out, both, from-out}
+use Rattle.codes.proofs.Rules.{Bounds, lawful-out, from-out}
 use Rattle.codes.proofs.encoder.put_codeword.Statement.{statement}
 use Rattle.codes.proofs.encoder.put_codeword.Tie as tie
 

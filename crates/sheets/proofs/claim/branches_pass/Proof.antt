@@ -7,6 +7,7 @@ use native.Mathlib.Numerals.{add-one}
 use native.Mathlib.Omega.{arith}
 use lib.ListN.{length}
 use lib.Pow.{pow-mono}
+use Rattle.lists.proofs.Tests.{first-fails, second-fails, both-pass}
 use Rattle.lists.specs.Lists.{all, below}
 use Rattle.lists.proofs.Scan.{all-within}
 use Rattle.codes.specs.Codes.{nextState}
@@ -23,7 +24,6 @@ use Rattle.blocks.proofs.Prices.{priceable}
 use Rattle.sheets.specs.Bytes.{entryAt}
 use Rattle.sheets.specs.Checking.{inTrellis}
 use Rattle.sheets.specs.Steps.{entriesIn, onward, clear, passing, allPassing}
-use Rattle.sheets.proofs.Agree.{first-fails, second-fails, both-pass}
 use Rattle.trellis.proofs.Listing.{noEntry}
 use Rattle.sheets.proofs.Listing.{length-entriesIn, entriesIn-at}
 use Rattle.sheets.proofs.Inputs.{below-first, below-none, inTrellis-out}

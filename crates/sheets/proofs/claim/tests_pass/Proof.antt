@@ -7,6 +7,7 @@ use Prim.Native.Nat.{ℕ, _+_, _-_}
 use native.Mathlib.Omega.{arith}
 use lib.Dec.{eqb}
 use lib.ListN.{length, getD, take, drop}
+use Rattle.lists.proofs.Tests.{first-fails, second-fails, both-pass}
 use Rattle.lists.specs.Lists.{all}
 use Rattle.codes.proofs.Rules.{lawful-out}
 use Rattle.trellis.specs.Trellis.{Trellis}
@@ -15,7 +16,6 @@ use Rattle.blocks.specs.Blocks.{trellisOf}
 use Rattle.blocks.specs.Packed.{seenIn}
 use Rattle.sheets.specs.Bytes.{series, entriesPlace, sheetRead}
 use Rattle.sheets.specs.Steps.{entriesIn, onPath, allPassing, tested, Branching}
-use Rattle.sheets.proofs.Agree.{first-fails, second-fails, both-pass}
 use Rattle.sheets.proofs.Listing.{part-rest, entriesIn-sheet}
 use Rattle.sheets.proofs.claim.tests_pass.Statement.{statement}
 use Rattle.sheets.proofs.claim.tests_pass.Tie as tie

@@ -5,6 +5,7 @@ use mathlib.Core.List.{List}
 use Prim.Native.Nat.{ℕ, _*_, _<_}
 use native.Mathlib.Omega.{arith}
 use Rattle.lists.proofs.Tests.{true-in}
+use Rattle.lists.proofs.Places.{place-in}
 use Rattle.trellis.specs.Trellis.{Node, node}
 use Rattle.trellis.specs.Verdict.{Entry}
 use Rattle.trellis.proofs.Paths.{node-path}
@@ -12,7 +13,6 @@ use Rattle.sheets.specs.Bytes.{entryAt}
 use Rattle.sheets.specs.Checking.{rising}
 use Rattle.sheets.specs.Steps.{entriesIn, keyOf, listedCost}
 use Rattle.trellis.proofs.Listing.{noEntry}
-use Rattle.trellis.proofs.Places.{place-in}
 use Rattle.sheets.proofs.Listing.{length-entriesIn, entriesIn-at, state-small, rising-test}
 use Rattle.sheets.proofs.Costs.{listed-one, listed-none}
 use Rattle.sheets.proofs.entries.listed.Statement.{statement}

@@ -5,13 +5,12 @@ use Prim.Native.Nat.{ℕ, suc, _+_, _-_, _*_, _≤_, _<_}
 use native.Mathlib.Numerals.{add-one}
 use native.Mathlib.Omega.{arith}
 use lib.ListN.{getD, drop}
-use Rattle.lists.proofs.Decides.{Decides}
+use Rattle.lists.proofs.Decides.{Decides, decided-yes, decided-no}
 use Rattle.trellis.specs.Verdict.{Entry}
 use Rattle.trellis.proofs.Honest.{lower}
 use Rattle.sheets.specs.Bytes.{entryAt}
 use Rattle.sheets.specs.Checking.{rising}
 use Rattle.sheets.specs.Steps.{entriesIn, keyOf}
-use Rattle.sheets.proofs.Agree.{decided-yes, decided-no}
 use Rattle.trellis.proofs.Listing.{noEntry}
 use Rattle.sheets.proofs.Listing.{length-entriesIn, neighbours-test, rising-next, rising-stop, rising-done}
 use Rattle.sheets.proofs.entries.rise.Statement.{statement}

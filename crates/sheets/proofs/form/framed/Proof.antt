@@ -6,10 +6,9 @@ use native.Mathlib.Omega.{arith}
 use lib.Dec.{eqb}
 use lib.ListN.{length, getD}
 use lib.Pow.{pow-pos, shl-exact}
-use Rattle.lists.proofs.Decides.{Decides, said, equal}
+use Rattle.lists.proofs.Decides.{Decides, said, equal, agree, decided-no}
 use Rattle.sheets.specs.Bytes.{messageSize, messagePlace, entriesPlace}
 use Rattle.sheets.specs.Checking.{framed}
-use Rattle.sheets.proofs.Agree.{agree, decided-no}
 use Rattle.sheets.proofs.Frame.{Framed, framed-test}
 use Rattle.sheets.proofs.form.framed.Statement.{statement}
 use Rattle.sheets.proofs.form.framed.Tie as tie

@@ -1,24 +1,18 @@
--- `put::put_message` meets its contract: writing the bytes that are left over the buffer as it is gives the whole message.
--- Assumes nothing.
-use mathlib.Core.Path.{_≡_, refl, sym, _∙_}
+-- `put::put_message` meets its contract: writing the bytes that are left over the buffer as it is gives the whole message (the record
+-- Filling). Assumes nothing.
+use mathlib.Core.Path.{_≡_, sym, _∙_}
 use mathlib.Core.List.{List}
-use Prim.Native.Nat.{ℕ, _+_, _-_}
+use Prim.Native.Nat.{ℕ, _-_}
 use native.Mathlib.Omega.{arith}
-use lib.ListN.{length, getD, drop, length-set}
-use lib.Seq.{sets}
-use Rattle.lists.proofs.Writing.{sets-next, sets-done}
+use lib.ListN.{length, getD}
+use Rattle.lists.proofs.Writing.{Filling, filling-start, filling-next, filling-done}
 use Rattle.sheets.specs.Bytes.{messageSize, messagePlace, octet, messageBytes}
 use Rattle.sheets.proofs.Series.{length-series, getD-series}
 use Rattle.sheets.proofs.put.put_message.Statement.{statement}
 use Rattle.sheets.proofs.put.put_message.Tie as tie
 
--- the bytes before j are put
-record Putting (bytes first out : List ℕ) (j : ℕ) : Type 0 where
-  kept : length out ≡ length first
-  rest : sets out (messagePlace + j) (drop j bytes) ≡ sets first messagePlace bytes
-
 abbrev Inv-loop : tie.InvT-loop
-Inv-loop out₀ message size j₀ out j = Putting (messageBytes (length message) message) out₀ out j
+Inv-loop out₀ message size j₀ out j = Filling out₀ (messageBytes (length message) message) messagePlace out j
 
 abbrev μ-loop : tie.MeasureT-loop
 μ-loop out₀ message size j₀ out j = size - j
@@ -48,7 +42,7 @@ add-size : tie.Need-add-size Inv-loop μ-loop
 add-size c = omega (arith, c .before .before .pre .1)
 
 loop-holds : tie.Need-loop-holds Inv-loop μ-loop
-loop-holds c = record { kept = refl; rest = refl }
+loop-holds c = filling-start _ _ messagePlace
 
 octet-requires : tie.Need-octet-requires Inv-loop μ-loop
 octet-requires c κs = let s = start (c .before) in (s .pre .0, omega (arith, s .pre .1, c .loop-test .taken))
@@ -69,8 +63,7 @@ loop-again : tie.Need-loop-again Inv-loop μ-loop
 loop-again c =
     let a = c .before .before in
     let s = start a in
-    let next = sets-next (a .loop .out) (bytes s) messagePlace (a .loop .j) 0 (omega (arith, bytes-length s, c .before .loop-test .taken)) in
-    record { kept = simp length-set (a .loop .inv .kept); rest = rw (written c) (sym next ∙ a .loop .inv .rest) }
+    rw (written c) (filling-next 0 (omega (arith, bytes-length s, c .before .loop-test .taken)) (a .loop .inv))
 
 same-length : tie.Need-same-length Inv-loop μ-loop
 same-length c = c .before .loop .inv .kept
@@ -79,7 +72,7 @@ returns : tie.Need-returns Inv-loop μ-loop
 returns c =
     let a = c .before in
     let s = start a in
-    sym (sets-done (a .loop .out) (bytes s) messagePlace (a .loop .j) (omega (arith, bytes-length s, c .loop-test .left))) ∙ a .loop .inv .rest
+    filling-done (omega (arith, bytes-length s, c .loop-test .left)) (a .loop .inv)
 
 pub put-message-spec : {M : Type 1} → statement M
 put-message-spec =
