@@ -1,19 +1,17 @@
 -- The answer in the reader's words: a verdict is an answer exactly if one message alone has the least metric, E is at most B and D(E)
 -- at most R; then it carries that message, its metric and E. Assumes nothing.
 use mathlib.Core.Path.{_≡_, refl, sym, ap, _∙_, subst}
+use mathlib.Core.Logic.{_⊎_, inl, inr}
 use mathlib.Core.List.{List, [], _∷_}
-use mathlib.Core.Bool.{Bool, true, false, cond}
-use Prim.Native.Nat.{ℕ, _≤_, min}
+use Prim.Native.Nat.{ℕ, _≤_}
 use native.Mathlib.Omega.{arith}
-use borrow.Author.Tests.{ltb-false}
-use lib.Dec.{ltb}
 use Rattle.lists.proofs.Membership.{_∈_, here, singleton-out, only-member, map-in, map-out}
 use Rattle.lists.proofs.Least.{least-le, least-of}
 use Rattle.lists.proofs.Unique.{length-within}
 use Rattle.trellis.specs.Trellis.{Trellis}
-use Rattle.trellis.specs.Verdict.{steps, met, messages, leastMetric, leastMessages, answered, roomShort, allowanceSpent, lastFit, decided, verdict}
+use Rattle.trellis.specs.Verdict.{steps, met, messages, leastMetric, leastMessages, answered, decided, verdict}
 use Rattle.trellis.proofs.Messages.{metricOf, Least, leastMessages-in, leastMessages-out, leastMessages-unique}
-use Rattle.trellis.proofs.Verdicts.{verdict-found}
+use Rattle.trellis.proofs.Verdicts.{Full, Spent, Known, verdict-ways, verdict-found}
 
 -- ---- in words
 
@@ -87,30 +85,23 @@ pub record Answer (t : Trellis) (room allowance : ℕ) (w : List ℕ) (m done : 
 -- for whoever reads an answer: what it carries is right
 pub answered-out : (t : Trellis) (room allowance : ℕ) (w : List ℕ) (m done : ℕ) → verdict t room allowance ≡ answered w m done
     → Answer t room allowance w m done
-unfolding verdict decided
-answered-out t room allowance w m done =
-    go (ltb room (met t (min (steps t) allowance))) (ltb allowance (steps t)) refl refl
+unfolding decided
+answered-out t room allowance w m done h = go (verdict-ways t room allowance)
   where
-    last : (l : List (List ℕ)) → leastMessages t ≡ l → steps t ≤ allowance → met t (min (steps t) allowance) ≤ room
-        → decided t l ≡ answered w m done → Answer t room allowance w m done
-    last [] e h k p = let z : _≡_ {A = ℕ} 0 1 = cc (p) in absurd (omega arith)
-    last (v ∷ []) e h k p =
+    last : (l : List (List ℕ)) → leastMessages t ≡ l → Known t room allowance → decided t l ≡ answered w m done → Answer t room allowance w m done
+    last [] e f p = let z : _≡_ {A = ℕ} 0 1 = cc (p) in absurd (omega arith)
+    last (v ∷ []) e f p =
         let same : v ≡ w = cc (p) in
         let least : leastMetric t ≡ m = cc (p) in
-        let all : min (steps t) allowance ≡ steps t = omega arith in
         let alone : Alone t w = alone-out t (e ∙ ap (λ (x : List ℕ). x ∷ []) same) in
         record {
-          answerable = record { alone = alone; allowed = h; roomy = rw all at k };
+          answerable = record { alone = alone; allowed = f .allowed; roomy = f .roomy };
           paid = sym least ∙ sym (alone-paid alone);
           ended = cc (p);
         }
-    last (v ∷ u ∷ more) e h k p = let z : _≡_ {A = ℕ} 0 1 = cc (p) in absurd (omega arith)
+    last (v ∷ u ∷ more) e f p = let z : _≡_ {A = ℕ} 0 1 = cc (p) in absurd (omega arith)
 
-    go : (p q : Bool) → ltb room (met t (min (steps t) allowance)) ≡ p → ltb allowance (steps t) ≡ q
-        → cond p (roomShort (lastFit t room (min (steps t) allowance))) (cond q (allowanceSpent allowance) (decided t (leastMessages t)))
-        ≡ answered w m done
-        → Answer t room allowance w m done
-    go true q e f h = let z : _≡_ {A = ℕ} 0 1 = cc (h) in absurd (omega arith)
-    go false true e f h = let z : _≡_ {A = ℕ} 0 1 = cc (h) in absurd (omega arith)
-    go false false e f h =
-        last (leastMessages t) refl (ltb-false allowance (steps t) f) (ltb-false room (met t (min (steps t) allowance)) e) h
+    go : Full t room allowance ⊎ (Spent t room allowance ⊎ Known t room allowance) → Answer t room allowance w m done
+    go (inl f) = let z : _≡_ {A = ℕ} 0 1 = cc (f .told, h) in absurd (omega arith)
+    go (inr (inl f)) = let z : _≡_ {A = ℕ} 0 1 = cc (f .told, h) in absurd (omega arith)
+    go (inr (inr f)) = last (leastMessages t) refl f (sym (f .told) ∙ h)

@@ -1,18 +1,17 @@
 -- Refusal 3: 'the greatest j with D(j) at most R, or 0 if none'. The definition looks at the j up to s alone; here it is shown that
--- where D(s) is above R it is the greatest of all j, since D does not fall. First how a search that stops finds it, then what it is,
--- then what a verdict says that refuses so. Assumes nothing.
-use mathlib.Core.Path.{_≡_, refl, sym, subst}
+-- where D(s) is above R it is the greatest of all j, since D does not fall. First how a search that stops finds it, then what it is.
+-- What a verdict says that refuses so is in Refused. Assumes nothing.
+use mathlib.Core.Path.{_≡_, refl, sym}
 use mathlib.Core.Logic.{_⊎_, inl, inr}
-use mathlib.Core.List.{List, [], _∷_}
-use mathlib.Core.Bool.{Bool, true, false, cond}
-use Prim.Native.Nat.{ℕ, zero, suc, _≤_, _<_, min}
+use mathlib.Core.Bool.{cond}
+use Prim.Native.Nat.{ℕ, zero, suc, _≤_, _<_}
 use native.Mathlib.Decide.{decLe, decLt}
 use native.Mathlib.Omega.{arith}
-use borrow.Author.Tests.{le-leb, lt-leb, ltb-true}
-use lib.Dec.{leb, ltb}
+use borrow.Author.Tests.{le-leb, lt-leb}
+use lib.Dec.{leb}
 use Rattle.lists.proofs.Membership.{eq-or-lt}
 use Rattle.trellis.specs.Trellis.{Trellis}
-use Rattle.trellis.specs.Verdict.{steps, met, leastMessages, roomShort, allowanceSpent, lastFit, decided, verdict}
+use Rattle.trellis.specs.Verdict.{met, lastFit}
 use Rattle.trellis.proofs.MetNodes.{met-mono}
 
 module _ (t : Trellis) (room : ℕ) where
@@ -69,40 +68,3 @@ module _ (t : Trellis) (room : ℕ) where
       go : Dec (j ≤ k) → j ≤ lastFit t room k
       go (yes l) = lastFit-within k j l p
       go (no l) = absurd (omega (arith, met-mono t k j (omega arith)))
-
--- ---- in the reader's words
-
--- 'the greatest j with D(j) at most R, or 0 if none'
-pub record Greatest (t : Trellis) (room j : ℕ) : Type 0 where
-  -- it fits, where any does
-  pub fits : (k : ℕ) → met t k ≤ room → met t j ≤ room
-  -- none that fits is greater
-  pub most : (k : ℕ) → met t k ≤ room → k ≤ j
-  -- it is 0 where none fits
-  pub none : ((k : ℕ) → met t k ≤ room → ⊥) → j ≡ 0
-
--- for the reader of refusal 3: these are the steps that it hands back
-pub roomShort-out : (t : Trellis) (room allowance j : ℕ) → verdict t room allowance ≡ roomShort j → Greatest t room j
-unfolding verdict decided
-roomShort-out t room allowance j = go (ltb room (met t s)) (ltb allowance (steps t)) refl
-  where
-    s : ℕ
-    s = min (steps t) allowance
-
-    last : (l : List (List ℕ)) → decided t l ≡ roomShort j → ⊥
-    last [] h = let z : _≡_ {A = ℕ} 0 1 = cc (h) in omega arith
-    last (w ∷ []) h = let z : _≡_ {A = ℕ} 0 1 = cc (h) in omega arith
-    last (w ∷ v ∷ more) h = let z : _≡_ {A = ℕ} 0 1 = cc (h) in omega arith
-
-    go : (p q : Bool) → ltb room (met t s) ≡ p
-        → cond p (roomShort (lastFit t room s)) (cond q (allowanceSpent allowance) (decided t (leastMessages t))) ≡ roomShort j → Greatest t room j
-    go true q e h =
-        let own : lastFit t room s ≡ j = cc (h) in
-        let above : room < met t s = ltb-true room (met t s) e in
-        subst (Greatest t room) own (record {
-          fits = lastFit-fits t room s;
-          most = (λ k. lastFit-greatest t room s k above);
-          none = lastFit-none t room s;
-        })
-    go false true e h = let z : _≡_ {A = ℕ} 0 1 = cc (h) in absurd (omega arith)
-    go false false e h = absurd (last (leastMessages t) h)

@@ -30,6 +30,7 @@ pub mod Searched
 pub mod Cheaper
 pub mod Safe
 pub mod Answered
+pub mod Refused
 pub mod HonestRanked
 pub mod NextClosed
 pub mod HonestRows

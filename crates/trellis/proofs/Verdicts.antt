@@ -1,11 +1,13 @@
--- The verdict by how a search came to its end: no room at all, full after j steps, the allowance spent, the terminal found.
--- What the search's last step cites. Assumes nothing.
+-- The verdict by how a search came to its end: no room at all, full after j steps, the allowance spent, the terminal found, which is
+-- what the search's last step cites; then the three ways to a verdict, for its readers (Answered, Refused). Assumes nothing.
 use mathlib.Core.Path.{_≡_, ap}
+use mathlib.Core.Logic.{_⊎_, inl, inr}
 use Prim.Native.Nat.{ℕ, suc, _≤_, _<_, min}
+use native.Mathlib.Decide.{decLt}
 use native.Mathlib.Omega.{arith}
 use borrow.Author.Tests.{lt-ltb, le-ltb}
 use Rattle.trellis.specs.Trellis.{Trellis}
-use Rattle.trellis.specs.Verdict.{steps, met, decided, leastMessages, verdict, roomShort, allowanceSpent}
+use Rattle.trellis.specs.Verdict.{steps, met, decided, leastMessages, lastFit, verdict, roomShort, allowanceSpent}
 use Rattle.trellis.proofs.MetNodes.{met-mono, met-some}
 use Rattle.trellis.proofs.LastFit.{lastFit-is, lastFit-none}
 
@@ -37,3 +39,45 @@ unfolding verdict
 verdict-found t room allowance h p =
     let e : min (steps t) allowance ≡ steps t = omega arith in
     rw (e, le-ltb room (met t (steps t)) p, le-ltb allowance (steps t) h)
+
+-- ---- the three ways
+
+-- D(s) > R
+pub record Full (t : Trellis) (room allowance : ℕ) : Type 0 where
+  pub above : room < met t (min (steps t) allowance)
+  pub told : verdict t room allowance ≡ roomShort (lastFit t room (min (steps t) allowance))
+
+-- 'Otherwise, if B < E'
+pub record Spent (t : Trellis) (room allowance : ℕ) : Type 0 where
+  pub short : allowance < steps t
+  -- D(B) ≤ R
+  pub roomy : met t allowance ≤ room
+  pub told : verdict t room allowance ≡ allowanceSpent allowance
+
+-- 'Otherwise the least metric is known'
+pub record Known (t : Trellis) (room allowance : ℕ) : Type 0 where
+  -- E ≤ B
+  pub allowed : steps t ≤ allowance
+  -- D(E) ≤ R
+  pub roomy : met t (steps t) ≤ room
+  pub told : verdict t room allowance ≡ decided t (leastMessages t)
+
+-- for whoever reads a verdict: it came one of these ways
+pub verdict-ways : (t : Trellis) (room allowance : ℕ) → Full t room allowance ⊎ (Spent t room allowance ⊎ Known t room allowance)
+unfolding verdict
+verdict-ways t room allowance = go (decLt room (met t (min (steps t) allowance))) (decLt allowance (steps t))
+  where
+    low : (room < met t (min (steps t) allowance) → ⊥) → met t (min (steps t) allowance) ≤ room
+    low h = omega arith
+
+    go : Dec (room < met t (min (steps t) allowance)) → Dec (allowance < steps t)
+        → Full t room allowance ⊎ (Spent t room allowance ⊎ Known t room allowance)
+    go (yes h) k = inl (record { above = h; told = rw (lt-ltb room (met t (min (steps t) allowance)) h) })
+    go (no h) (yes k) =
+        let e : min (steps t) allowance ≡ allowance = omega arith in
+        let r : met t allowance ≤ room = rw e at (low h) in
+        inr (inl (record { short = k; roomy = r; told = verdict-spent t room allowance k r }))
+    go (no h) (no k) =
+        let e : min (steps t) allowance ≡ steps t = omega arith in
+        let r : met t (steps t) ≤ room = rw e at (low h) in
+        inr (inr (record { allowed = omega arith; roomy = r; told = verdict-found t room allowance (omega arith) r }))
