@@ -3,3 +3,4 @@ pub mod Decoder
 pub mod Sheet
 pub mod Check
 pub mod Front
+pub mod Pinned
