@@ -14,16 +14,21 @@ use Rattle.lists.proofs.Tests.{both}
 use Rattle.codes.specs.Limits.{mostMemory, shortestMessage, longestMessage}
 use Rattle.codes.specs.Codes.{from, generatorsOf, registerOf, nextState, branchOutputs, outputsFrom, withTail, codeword, blockLength}
 use Rattle.codes.specs.Encoding.{isBit}
+use Rattle.codes.specs.declared.register.Register.{Register}
 use Rattle.codes.proofs.Codewords.{Writing, writing-start, writing-next, writing-done, branch-fits}
 use Rattle.codes.proofs.Codewords.{withTail-at, length-withTail, length-codeword}
 use Rattle.codes.proofs.Rules.{Bounds, lawful-out, from-out}
 use Rattle.codes.proofs.encoder.put_codeword.Statement.{statement}
 use Rattle.codes.proofs.encoder.put_codeword.Tie as tie
 
+-- i bits are done, from a register of m bits on
+record Done (generators : List ℕ) (m : ℕ) (bits first out : List ℕ) (register : Register) (at i : ℕ) : Type 0 where
+  memory : register .memory ≡ m
+  writing : Writing generators m bits first out (register .state) at i
+
 abbrev Inv-loop : tie.InvT-loop
 Inv-loop message out₀ n generators steps register₀ at₀ i₀ out register at i =
-    (register .memory ≡ register₀ .memory) ×
-    Writing (take n generators) (register₀ .memory) (withTail (register₀ .memory) message) out₀ out (register .state) at i
+    Done (take n generators) (register₀ .memory) (withTail (register₀ .memory) message) out₀ out register at i
 
 abbrev μ-loop : tie.MeasureT-loop
 μ-loop message out₀ n generators steps register₀ at₀ i₀ out register at i = steps - i
@@ -73,15 +78,15 @@ bit-small a = leb-true _ 1 (all-getD isBit (entry a .args .message .now) 0 (a .l
 fits : (w : tie.In-loop Inv-loop μ-loop) → let a = w .before in a .loop .at + entry a .args .code .outputs ≤ length (a .loop .out)
 fits w =
     let a = w .before in
-    omega (arith, counted a, branch-fits (generators a) _ (bits a) _ _ _ (a .loop .at) (a .loop .i) (a .loop .inv .1) (more w))
+    omega (arith, counted a, branch-fits (generators a) _ (bits a) _ _ _ (a .loop .at) (a .loop .i) (a .loop .inv .writing) (more w))
 
 -- the register can take the bit
 ready : (c : tie.After-bit-at Inv-loop μ-loop) → let r = c .before .before .loop .register in
     (r .memory ≤ mostMemory) × (r .state < 2 ^ (r .memory)) × (c .bit-at .result ≤ 1)
 ready c =
     let a = c .before .before in (
-      omega (arith, memory a, a .loop .inv .0, bounds (entry a) .memory-most),
-      rw (a .loop .inv .0) (a .loop .inv .1 .state),
+      omega (arith, memory a, a .loop .inv .memory, bounds (entry a) .memory-most),
+      rw (a .loop .inv .memory) (a .loop .inv .writing .state),
       omega (arith, c .bit-at .ensures, bit-small a),
     )
 
@@ -109,11 +114,13 @@ loop-holds c =
     let message = s .args .message .now in
     let out = s .args .out .now in
     let room : length (codeword code message) ≤ length out =
-    omega (arith, sizes s .1, length-codeword code message (omega (arith, four s, bounds s .outputs-most))) in (
-      refl,
-      rw (c .start .ensures .1, c .start .ensures .0)
-          (writing-start (generatorsOf code) (code .memory) (withTail (code .memory) message) out (pow-pos _) room),
-    )
+    omega (arith, sizes s .1, length-codeword code message (omega (arith, four s, bounds s .outputs-most))) in
+    record {
+      memory = refl;
+      writing =
+          rw (c .start .ensures .1, c .start .ensures .0)
+          (writing-start (generatorsOf code) (code .memory) (withTail (code .memory) message) out (pow-pos _) room);
+    }
 
 bit-at-requires : tie.Need-bit-at-requires Inv-loop μ-loop
 bit-at-requires c κs = tt
@@ -136,7 +143,7 @@ add-at : tie.Need-add-at Inv-loop μ-loop
 add-at c =
     let w = c .before .before .before .before .before .before .before in
     let a = w .before in
-    omega (arith, fits w, entry a .good .1 .1 .0 .0, a .loop .inv .1 .kept)
+    omega (arith, fits w, entry a .good .1 .1 .0 .0, a .loop .inv .writing .kept)
 
 add-i : tie.Need-add-i Inv-loop μ-loop
 add-i c = omega arith
@@ -161,19 +168,21 @@ loop-again c =
     let b : t .before .bit-at .result ≡ bit = t .before .bit-at .ensures ∙ sym same in
     let n : Writing (generators a) m (bits a) out (sets (a .loop .out) at (branchOutputs (generators a) (registerOf m bit state)))
     (nextState m bit state) (at + length (generators a)) (i + 1) =
-    writing-next (generators a) m (bits a) out (a .loop .out) state at i (a .loop .inv .1) (more w) (omega (arith, bit-small a, same)) in
+    writing-next (generators a) m (bits a) out (a .loop .out) state at i (a .loop .inv .writing) (more w) (omega (arith, bit-small a, same)) in
     let r : registerOf (a .loop .register .memory) (t .before .bit-at .result) state ≡ registerOf m bit state =
-    λ z. registerOf (a .loop .inv .0 z) (b z) state in (
-      c .next .ensures .0 ∙ a .loop .inv .0,
-      subst₃ (λ (o : List ℕ) (q : ℕ) (p : ℕ). Writing (generators a) m (bits a) out o q p (i + 1))
+    λ z. registerOf (a .loop .inv .memory z) (b z) state in
+    record {
+      memory = c .next .ensures .0 ∙ a .loop .inv .memory;
+      writing =
+          subst₃ (λ (o : List ℕ) (q : ℕ) (p : ℕ). Writing (generators a) m (bits a) out o q p (i + 1))
           (sym (k .put-branch .ensures ∙ ap (λ (x : ℕ). sets (a .loop .out) at (branchOutputs (generators a) x)) (t .with .ensures ∙ r)))
           (sym (c .next .ensures .1 ∙ ap (λ (x : ℕ). x / 2) r))
           (ap (λ (x : ℕ). at + x) (counted a))
-          n,
-    )
+          n;
+    }
 
 same-length : tie.Need-same-length Inv-loop μ-loop
-same-length c = c .before .loop .inv .1 .kept
+same-length c = c .before .loop .inv .writing .kept
 
 returns : tie.Need-returns Inv-loop μ-loop
 unfolding codeword
@@ -183,7 +192,7 @@ returns c =
     let s = entry a in
     let all : length (bits a) ≤ a .loop .i = omega (arith, length-withTail m (s .args .message .now), memory a, c .loop-test .left) in
     let e : a .loop .out ≡ sets (s .args .out .now) 0 (outputsFrom (generators a) m 0 (bits a)) =
-    writing-done (generators a) m (bits a) (s .args .out .now) (a .loop .out) _ (a .loop .at) (a .loop .i) (a .loop .inv .1) all in
+    writing-done (generators a) m (bits a) (s .args .out .now) (a .loop .out) _ (a .loop .at) (a .loop .i) (a .loop .inv .writing) all in
     subst (λ (k : ℕ). a .loop .out ≡ sets (s .args .out .now) 0 (outputsFrom (generators a) k 0 (withTail k (s .args .message .now)))) (memory a) e
 
 pub put-codeword-spec : {M : Type 1} → statement M

@@ -1,8 +1,9 @@
 -- `table::generators_within` meets its contract: the generators behind place i are all within exactly if all are. Assumes nothing.
 use borrow.Author.Tests.{le-leb, lt-leb}
 use mathlib.Core.Path.{_≡_, refl, sym, _∙_}
+use mathlib.Core.List.{List}
 use mathlib.Core.Bool.{false}
-use Prim.Native.Nat.{_-_, _≤_}
+use Prim.Native.Nat.{ℕ, _-_, _≤_}
 use native.Mathlib.Omega.{arith}
 use lib.ListN.{length, getD, take, drop}
 use lib.Seq.{length-take-le, getD-take}
@@ -12,9 +13,13 @@ use Rattle.codes.specs.Codes.{from}
 use Rattle.codes.proofs.table.generators_within.Statement.{statement}
 use Rattle.codes.proofs.table.generators_within.Tie as tie
 
+-- those before place i are within, so that the rest decides
+record Passed (n greatest : ℕ) (generators : List ℕ) (i : ℕ) : Type 0 where
+  within : i ≤ n
+  rest : all (from 1 greatest) (drop i (take n generators)) ≡ all (from 1 greatest) (take n generators)
+
 abbrev Inv-loop : tie.InvT-loop
-Inv-loop n greatest generators i₀ i =
-    (i ≤ n) × (all (from 1 greatest) (drop i (take n generators)) ≡ all (from 1 greatest) (take n generators))
+Inv-loop n greatest generators i₀ i = Passed n greatest generators i
 
 abbrev μ-loop : tie.MeasureT-loop
 μ-loop n greatest generators i₀ i = n - i
@@ -34,11 +39,11 @@ stopped : (w : tie.In-loop Inv-loop μ-loop) → let a = w .before in let s = a 
 stopped w e =
     let a = w .before in
     let s = a .before in
-    sym (sym (a .loop .inv .1)
+    sym (sym (a .loop .inv .rest)
     ∙ all-stop (from 1 (s .args .greatest)) (take (s .args .n) (s .args .t1)) 0 (a .loop .i) (omega (arith, counted s)) (rw (at-place w) e))
 
 loop-holds : tie.Need-loop-holds Inv-loop μ-loop
-loop-holds c = (omega arith, refl)
+loop-holds c = record { within = omega arith; rest = refl }
 
 mul-generator : tie.Need-mul-generator Inv-loop μ-loop
 mul-generator c = omega arith
@@ -62,17 +67,19 @@ loop-again : tie.Need-loop-again Inv-loop μ-loop
 loop-again c =
     let w = c .before .before in
     let a = w .before in
-    let s = a .before in (
-      omega arith,
-      sym (all-next (from 1 (s .args .greatest)) (take (s .args .n) (s .args .t1)) 0 (a .loop .i) (omega (arith, counted s))
-          (rw (at-place w, le-leb _ _ (c .before .if1 .left), le-leb _ _ (c .if2 .left)))) ∙ a .loop .inv .1,
-    )
+    let s = a .before in
+    record {
+      within = omega arith;
+      rest =
+          sym (all-next (from 1 (s .args .greatest)) (take (s .args .n) (s .args .t1)) 0 (a .loop .i) (omega (arith, counted s))
+          (rw (at-place w, le-leb _ _ (c .before .if1 .left), le-leb _ _ (c .if2 .left)))) ∙ a .loop .inv .rest;
+    }
 
 returns-3 : tie.Need-returns-3 Inv-loop μ-loop
 returns-3 c =
     let a = c .before in
     let s = a .before in
-    sym (sym (a .loop .inv .1) ∙ all-done (from 1 (s .args .greatest)) (take (s .args .n) (s .args .t1)) 0 (a .loop .i) (omega (arith, counted s)))
+    sym (sym (a .loop .inv .rest) ∙ all-done (from 1 (s .args .greatest)) (take (s .args .n) (s .args .t1)) 0 (a .loop .i) (omega (arith, counted s)))
 
 pub generators-within-spec : {M : Type 1} → statement M
 generators-within-spec =
