@@ -1,17 +1,8 @@
--- `front_cases::print::float` is safe: a float that equals itself is no NaN, so it has bits. Assumes nothing.
-use mathlib.Core.Path.{_≡_}
-use mathlib.Core.Bool.{false, not, true≢false}
+-- `float` is safe: a float that equals itself is no NaN, so it has bits. Assumes nothing.
 use borrow.Author.Needs.{needs}
-use lib.Dec.{T}
-use lib.Ieee.{Float, nan, inf, fin, ne, isNan}
+use Rattle.show.proofs.Bits.{equals-itself}
 use Rattle.show.proofs.float.Statement.{statement}
 use Rattle.show.proofs.float.Tie as tie
-
-equals-itself : (x : Float) → ne x x ≡ false → T (not (isNan x))
-unfolding ne isNan
-equals-itself nan e = absurd (true≢false e)
-equals-itself (inf s) e = tt
-equals-itself (fin s m d) e = tt
 
 slice-aggregate-text : tie.Need-slice-aggregate-text
 slice-aggregate-text c = search needs

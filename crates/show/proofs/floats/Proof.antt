@@ -1,4 +1,4 @@
--- `front_cases::print::floats` is safe and ends: the measure is how many are left. Assumes nothing.
+-- `floats` is safe and ends: the measure is how many are left. Assumes nothing.
 use Prim.Native.Nat.{_-_, _≤_}
 use borrow.Author.Needs.{needs}
 use lib.ListN.{length}

@@ -1,4 +1,4 @@
--- `front_cases::print::symbol` is safe: a byte and its negative fit 16 bits, and each cast to a count meets a number that is not negative. Assumes nothing.
+-- `symbol` is safe: a byte and its negative fit 16 bits, and each cast to a count meets a number that is not negative. Assumes nothing.
 use mathlib.Core.Path.{_≡_}
 use mathlib.Core.Bool.{true, false, true≢false}
 use native.Mathlib.Omega.{arith}
