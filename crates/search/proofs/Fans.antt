@@ -9,8 +9,9 @@ use native.Mathlib.Omega.{arith}
 use lib.ListN.{length}
 use Rattle.trellis.specs.Trellis.{Trellis, allowed}
 use Rattle.trellis.specs.Search.{Row, nodeAt, relax, fan}
+use Rattle.trellis.specs.Safe.{Safe}
 use Rattle.trellis.proofs.Expand.{fan-full, fan-on}
-use Rattle.trellis.proofs.Safe.{Safe, Grown, safe-relax}
+use Rattle.trellis.proofs.Safe.{Grown, safe-relax}
 
 -- the branches of row i below input b are taken, and the rest of them finishes the fan
 pub record Fanning (t : Trellis) (cap room i inputs : ℕ) (first rows : List Row) (b : ℕ) : Type 0 where

@@ -11,8 +11,9 @@ use Rattle.codes.proofs.Rules.{Bounds, lawful-out}
 use Rattle.trellis.specs.Trellis.{allowed}
 use Rattle.trellis.specs.Verdict.{Entry}
 use Rattle.trellis.specs.Search.{Row, Tried}
+use Rattle.trellis.specs.Safe.{SafeRow}
 use Rattle.trellis.proofs.Paths.{allowed-top}
-use Rattle.trellis.proofs.Safe.{SafeRow, safe-level}
+use Rattle.trellis.proofs.Safe.{safe-level}
 use Rattle.blocks.specs.Packed.{seenIn, Priceable}
 use Rattle.blocks.proofs.Closing.{state-below}
 use Rattle.blocks.proofs.Distance.{metric-total}

@@ -10,9 +10,10 @@ use lib.ListN.{length}
 use Rattle.trellis.specs.Trellis.{Trellis}
 use Rattle.trellis.specs.Lawful.{Lawful}
 use Rattle.trellis.specs.Search.{Row, firstOpen, started, full, spent, arrived, run, searched}
+use Rattle.trellis.specs.Safe.{Safe}
 use Rattle.trellis.proofs.Between.{Between, started-between}
 use Rattle.trellis.proofs.Run.{Arrived, after, inside, step-going, run-found, run-spent, run-full, run-on}
-use Rattle.trellis.proofs.Safe.{Safe, safe-started, safe-expand}
+use Rattle.trellis.proofs.Safe.{safe-started, safe-expand}
 
 -- for the return at once: without room for the origin nothing is done
 pub searched-none : (t : Trellis) (cap room allowance : ℕ) → room ≡ 0 → searched t cap room allowance ≡ record { rows = []; outcome = full 0 }

@@ -12,7 +12,7 @@ use Rattle.trellis.specs.Trellis.{Trellis, Path, allowed}
 use Rattle.trellis.specs.Verdict.{Entry}
 use Rattle.trellis.specs.Sheet.{onto}
 use Rattle.trellis.specs.Search.{Row, rowAt, Tried, Outcome, found, full, spent, Ended}
-use Rattle.trellis.proofs.Safe.{Safe}
+use Rattle.trellis.specs.Safe.{Safe}
 use Rattle.blocks.specs.Blocks.{trellisOf}
 use Rattle.blocks.specs.Bounds.{totalWeight}
 use Rattle.blocks.specs.Packed.{seenIn}

@@ -17,11 +17,12 @@ use Rattle.trellis.specs.Trellis.{Trellis, terminal}
 use Rattle.trellis.specs.Verdict.{Entry, entry, priced, before, ranked, met}
 use Rattle.trellis.specs.Sheet.{onto}
 use Rattle.trellis.specs.Search.{Row, rowAt, entryAt, nodeAt, costAt, started, firstOpen}
+use Rattle.trellis.specs.Safe.{Attained}
 use Rattle.trellis.proofs.Paths.{Reached, node-path}
 use Rattle.trellis.proofs.Cost.{cost-computed}
 use Rattle.trellis.proofs.Order.{before-order, entry-path, onto-later}
 use Rattle.trellis.proofs.Ranked.{Priced, ranked-out}
-use Rattle.trellis.proofs.Step.{AtMost, at-most-before, Attained, Closed, Offered, Frontier, all-closed}
+use Rattle.trellis.proofs.Step.{AtMost, at-most-before, Closed, Offered, Frontier, all-closed}
 use Rattle.trellis.proofs.Step.{ranked-after, next-exact, next-ranked}
 use Rattle.trellis.proofs.Sharing.{Branch, branch, lands, Fits, LeastBranches, shared, starting, total, sharing-total}
 use Rattle.trellis.proofs.Rows.{First, firstOpen-is}

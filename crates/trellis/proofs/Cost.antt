@@ -11,8 +11,8 @@ use Rattle.lists.proofs.Membership.{_∈_, map-in, map-out, keep-in, keep-out}
 use Rattle.lists.proofs.Unique.{Unique, keep-unique, same-length}
 use Rattle.lists.proofs.Least.{least-le, least-of}
 use Rattle.trellis.specs.Trellis.{Trellis, Path, Node, origin, along, metric, ends, pathsTo, cost}
-use Rattle.trellis.specs.Lawful.{start}
-use Rattle.trellis.proofs.Paths.{Ends, pathsTo-in, pathsTo-out, pathsTo-unique}
+use Rattle.trellis.specs.Lawful.{start, Ends}
+use Rattle.trellis.proofs.Paths.{pathsTo-in, pathsTo-out, pathsTo-unique}
 
 -- c is the least metric of the paths that end at x, and path has it
 pub record Cost (t : Trellis) (x : Node) (c : ℕ) : Type 0 where

@@ -15,9 +15,9 @@ use Rattle.trellis.specs.Trellis.{Trellis, Path, Node, top, terminal}
 use Rattle.trellis.specs.Verdict.{steps, leastMetric, leastMessages, answered, tied, decided}
 use Rattle.trellis.specs.Lawful.{Lawful, messageOf}
 use Rattle.trellis.specs.Search.{Row, rowAt, entryAt, nodeAt, costAt, found, trace, read}
+use Rattle.trellis.specs.Safe.{Attains}
 use Rattle.trellis.proofs.Cost.{Cost, LeastPaths, leastPaths}
 use Rattle.trellis.proofs.Messages.{leastMetric-is, leastMessages-length, decided-answered, decided-tied}
-use Rattle.trellis.proofs.Step.{Attains}
 use Rattle.trellis.proofs.MetNodes.{steps-at}
 use Rattle.trellis.proofs.Sharing.{sharing}
 use Rattle.trellis.proofs.Rows.{First}

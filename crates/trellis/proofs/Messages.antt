@@ -16,8 +16,8 @@ use Rattle.lists.proofs.Least.{least-le, least-of}
 use Rattle.lists.proofs.Words.{grown-in, grown-out, grown-unique}
 use Rattle.trellis.specs.Trellis.{Trellis, Path, top, allowed, terminal, metric}
 use Rattle.trellis.specs.Verdict.{words, messages, pathOf, leastMetric, leastMessages, steps, answered, tied, decided}
-use Rattle.trellis.specs.Lawful.{Allowed, start, step, messageOf, Lawful}
-use Rattle.trellis.proofs.Paths.{Ends, Reached, allowed-message, allowed-tail, allowed-top}
+use Rattle.trellis.specs.Lawful.{Allowed, start, step, messageOf, Lawful, Ends}
+use Rattle.trellis.proofs.Paths.{Reached, allowed-message, allowed-tail, allowed-top}
 use Rattle.trellis.proofs.Cost.{Cost, cost-unique, LeastPaths, leastPaths-length}
 
 -- ---- messages

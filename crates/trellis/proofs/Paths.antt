@@ -14,7 +14,7 @@ use Rattle.lists.proofs.Unique.{Unique, keep-unique}
 use Rattle.lists.proofs.Distinct.{Equality, distinct-in, distinct-out, distinct-unique}
 use Rattle.lists.proofs.Words.{grown-in, grown-out, grown-unique}
 use Rattle.trellis.specs.Trellis.{Trellis, Path, Node, node, top, allowed, ends, endNode, same, paths, pathsTo, reachable}
-use Rattle.trellis.specs.Lawful.{Allowed, start, step}
+use Rattle.trellis.specs.Lawful.{Allowed, start, step, Ends}
 
 -- ---- which inputs are allowed
 
@@ -42,12 +42,6 @@ allowed-top t l b h = go (test (ltb l (top t)))
     go (no k) = let e : allowed t l ≡ 0 = allowed-none t l (ltb-false l (top t) (false-out (ltb l (top t)) k)) in absurd (omega arith)
 
 -- ---- paths
-
--- p is an allowed path that ends at x
-pub record Ends (t : Trellis) (x : Node) (p : Path) : Type 0 where
-  pub allowed : Allowed t p
-  pub level : length p ≡ x .level
-  pub state : ends t p ≡ x .state
 
 -- a path ends at its own node
 pub ends-here : {t : Trellis} {p : Path} → Allowed t p → Ends t (endNode t p) p

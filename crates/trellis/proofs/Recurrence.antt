@@ -11,8 +11,8 @@ use Rattle.lists.specs.Lists.{keep, below, least}
 use Rattle.lists.proofs.Membership.{_∈_, member-cast, keep-in, keep-out, map-in, map-out, flatMap-in, flatMap-out, below-in, below-out}
 use Rattle.lists.proofs.Least.{least-le, least-of}
 use Rattle.trellis.specs.Trellis.{Trellis, Path, Node, node, allowed, ends, along, metric, endNode, same, origin, reachable, cost, successors}
-use Rattle.trellis.specs.Lawful.{Allowed, step}
-use Rattle.trellis.proofs.Paths.{Ends, Reached, ends-here, node-path, same-equality, reachable-in, reachable-out}
+use Rattle.trellis.specs.Lawful.{Allowed, step, Ends}
+use Rattle.trellis.proofs.Paths.{Reached, ends-here, node-path, same-equality, reachable-in, reachable-out}
 use Rattle.trellis.proofs.Cost.{Cost, cost-is, cost-computed}
 
 -- ---- branches

@@ -1,7 +1,5 @@
--- Safe rows: what a program that keeps rows in numbers of fixed width needs of them, whatever order they are expanded in. Every
--- row's cost is the metric of a path to its node (so a bound on metrics and on reached nodes bounds rows), its parent is a row, its
--- input one of the trellis, its count within the cap; no node has two rows; there are no more rows than room. Every step of the
--- search keeps this. That the search is right is not here but in Between, Expand and Searched. Assumes nothing.
+-- Every step of the search keeps its rows safe (specs/Safe): so a bound on metrics and on reached nodes bounds rows, whatever order they
+-- are expanded in. That the search is right is not here but in Between, Expand and Searched. Assumes nothing.
 use mathlib.Core.Path.{_≡_, refl, sym, ap, _∙_, subst}
 use mathlib.Core.List.{List, [], _∷_}
 use mathlib.Core.Bool.{Bool, true, false}
@@ -13,26 +11,11 @@ use Rattle.trellis.specs.Trellis.{Trellis, Node, top, allowed, ends, alo
 use Rattle.trellis.specs.Sheet.{onto}
 use Rattle.trellis.specs.Lawful.{start}
 use Rattle.trellis.specs.Search.{Row, rowAt, entryAt, nodeAt, started, gained, shut, closed, Tried, arrival, relax, onward, fan, expand}
+use Rattle.trellis.specs.Safe.{SafeRow, Safe}
 use Rattle.trellis.proofs.Paths.{ends-here, allowed-message, allowed-tail, allowed-none, path-short}
-use Rattle.trellis.proofs.Step.{Attained, attains-onto}
+use Rattle.trellis.proofs.Step.{attains-onto}
 use Rattle.trellis.proofs.Rows.{Changed, set-changed, added-changed}
 use Rattle.trellis.proofs.Entered.{Entered, lowers, joins, leaves, adds, stops, entered-is}
-
--- a row among n rows
-pub record SafeRow (t : Trellis) (cap n : ℕ) (r : Row) : Type 0 where
-  -- some path to the node has the row's cost
-  pub attained : Attained t (r .entry)
-  pub parent : r .parent < n
-  pub input : r .input < t .inputs
-  pub count : r .count ≤ cap
-
--- all rows
-pub record Safe (t : Trellis) (cap room : ℕ) (rows : List Row) : Type 0 where
-  -- there is room for them
-  pub held : length rows ≤ room
-  pub each : (i : ℕ) → i < length rows → SafeRow t cap (length rows) (rowAt rows i)
-  -- no node has two
-  pub once : (i k : ℕ) → i < length rows → k < length rows → nodeAt rows i ≡ nodeAt rows k → i ≡ k
 
 -- no row stands above the top
 pub safe-level : {t : Trellis} {cap n : ℕ} {r : Row} → SafeRow t cap n r → r .entry .node .level ≤ top t

@@ -15,8 +15,8 @@ use Rattle.lists.proofs.Unique.{Unique, append-unique, map-unique, flatMap-uniq
 use Rattle.trellis.specs.Trellis.{Trellis, Path, Node, origin, allowed, ends, along, metric, endNode, pathsTo, cost}
 use Rattle.trellis.specs.Verdict.{Entry, entry}
 use Rattle.trellis.specs.Sheet.{onto}
-use Rattle.trellis.specs.Lawful.{start}
-use Rattle.trellis.proofs.Paths.{Ends, ends-here}
+use Rattle.trellis.specs.Lawful.{start, Ends}
+use Rattle.trellis.proofs.Paths.{ends-here}
 use Rattle.trellis.proofs.Cost.{Cost, cost-is, cost-unique, cost-origin, LeastPaths, leastPaths, leastPaths-length}
 use Rattle.trellis.proofs.Recurrence.{extend, metric-extend, ends-rest, ends-last, cost-enters, reached-origin}
 use Rattle.trellis.proofs.Order.{entry-path, mark}

@@ -13,8 +13,8 @@ use Rattle.lists.proofs.Tests.{true-out}
 use Rattle.trellis.specs.Trellis.{Trellis, Path, Node, node, ends, along, metric, endNode, terminal, cost}
 use Rattle.trellis.specs.Verdict.{Entry, entry, priced, pathOf, leastMetric, leastMessages}
 use Rattle.trellis.specs.Sheet.{onto, carries, honest}
-use Rattle.trellis.specs.Lawful.{Allowed, start, step, Lawful}
-use Rattle.trellis.proofs.Paths.{Ends, ends-here, node-path}
+use Rattle.trellis.specs.Lawful.{Allowed, start, step, Lawful, Ends}
+use Rattle.trellis.proofs.Paths.{ends-here, node-path}
 use Rattle.trellis.proofs.Cost.{Cost, cost-is, cost-origin}
 use Rattle.trellis.proofs.Recurrence.{Enters, extend, metric-extend, cost-enters}
 use Rattle.trellis.proofs.Order.{mark}

@@ -15,8 +15,8 @@ use Rattle.lists.proofs.Membership.{_∈_, here, nil-out, every-cons}
 use Rattle.trellis.specs.Trellis.{Trellis, Path, Node, node, terminal, ends, along, metric, endNode}
 use Rattle.trellis.specs.Verdict.{Entry, messages, pathOf, leastMetric, leastMessages}
 use Rattle.trellis.specs.Sheet.{onto, carries}
-use Rattle.trellis.specs.Lawful.{Allowed, start, step, Lawful}
-use Rattle.trellis.proofs.Paths.{Ends, node-path}
+use Rattle.trellis.specs.Lawful.{Allowed, start, step, Lawful, Ends}
+use Rattle.trellis.proofs.Paths.{node-path}
 use Rattle.trellis.proofs.Cost.{Cost, LeastPaths}
 use Rattle.trellis.proofs.Messages.{messageOf-pathOf, pathOf-ends, leastMetric-is, leastMessages-one}
 use Rattle.trellis.proofs.Parts.{parts, parts-whole, parts-earlier, parts-metric}

@@ -14,7 +14,8 @@ use Rattle.trellis.specs.Trellis.{Trellis, Path, Node, origin, allowed, 
 use Rattle.trellis.specs.Verdict.{Entry, entry, priced, before, ranked}
 use Rattle.trellis.specs.Sheet.{onto}
 use Rattle.trellis.specs.Lawful.{Allowed, start, step}
-use Rattle.trellis.proofs.Paths.{Ends, ends-here, node-path}
+use Rattle.trellis.specs.Safe.{Attains, Attained}
+use Rattle.trellis.proofs.Paths.{ends-here, node-path}
 use Rattle.trellis.proofs.Cost.{Cost, cost-is, cost-computed}
 use Rattle.trellis.proofs.Recurrence.{extend, metric-extend}
 use Rattle.trellis.proofs.Order.{Before, before-in, before-out, before-order, entry-path, mark, onto-later}
@@ -82,16 +83,6 @@ pub record Offered (Open : Entry → Type 0) (e : Entry) : Type 0 where
   pub cost : ℕ
   pub here : Open (record { cost = cost; node = e .node })
   pub small : cost ≤ e .cost
-
--- the path ends at the entry's node and has just its cost
-pub record Attains (t : Trellis) (e : Entry) (p : Path) : Type 0 where
-  pub there : Ends t (e .node) p
-  pub paid : metric t p ≡ e .cost
-
--- and some path is such a one
-pub record Attained (t : Trellis) (e : Entry) : Type 0 where
-  pub path : Path
-  pub attains : Attains t e path
 
 -- the open nodes are what the first j ranked ones lead to, each at the least cost that they offer
 pub record Frontier (t : Trellis) (j : ℕ) (Open : Entry → Type 0) : Type 0 where

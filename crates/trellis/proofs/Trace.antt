@@ -9,8 +9,9 @@ use Rattle.trellis.specs.Trellis.{Trellis, ends, along}
 use Rattle.trellis.specs.Verdict.{Entry}
 use Rattle.trellis.specs.Lawful.{start}
 use Rattle.trellis.specs.Search.{Row, rowAt, entryAt, nodeAt, trace}
+use Rattle.trellis.specs.Safe.{Attains, Attained}
 use Rattle.trellis.proofs.Paths.{ends-here}
-use Rattle.trellis.proofs.Step.{Attains, Attained, attains-onto}
+use Rattle.trellis.proofs.Step.{attains-onto}
 use Rattle.trellis.proofs.Sharing.{Branch}
 use Rattle.trellis.proofs.Table.{Link, Table}
 

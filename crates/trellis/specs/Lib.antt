@@ -3,3 +3,4 @@ pub mod Verdict
 pub mod Sheet
 pub mod Lawful
 pub mod Search
+pub mod Safe

@@ -19,9 +19,8 @@ use Rattle.codes.specs.Encoding.{isBit}
 use Rattle.trellis.specs.Trellis.{Trellis, Path, top, terminal}
 use Rattle.trellis.specs.Verdict.{Entry, leastMetric, messages}
 use Rattle.trellis.specs.Sheet.{honest}
-use Rattle.trellis.specs.Lawful.{Lawful, messageOf}
+use Rattle.trellis.specs.Lawful.{Lawful, messageOf, Ends}
 use Rattle.trellis.specs.Search.{Row, rowAt, nodeAt, nextClosed, shut, closed, searched, trace}
-use Rattle.trellis.proofs.Paths.{Ends}
 use Rattle.trellis.proofs.Messages.{words-out, Word, messageOf-in}
 use Rattle.trellis.proofs.Found.{Right}
 use Rattle.trellis.proofs.Trace.{length-trace}
