@@ -11,7 +11,7 @@ use crate::register::{Register, output_bit};
 use crate::table::{Code, keeps_rules};
 
 // What `encode` answers: the number of symbols written, or a refusal.
-#[derive(Drop)]
+#[derive(Clone, Copy)]
 pub enum Encoded {
     Done(usize),
     BadCode,

@@ -4,7 +4,7 @@ ghost use Rattle.codes.specs.Limits.{most_memory};
 ghost use Rattle.codes.specs.Codes.{register_of, output_bit, next_state};
 
 // The memory m and the state, a number below 2^m.
-#[derive(Drop)]
+#[derive(Clone, Copy)]
 pub struct Register {
     pub memory: u32,
     pub state: u32,

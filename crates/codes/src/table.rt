@@ -6,7 +6,7 @@ ghost use Rattle.codes.specs.Codes.{from, lawful, house_code};
 use crate::limits::{FEWEST_OUTPUTS, LEAST_MEMORY, MOST_MEMORY, MOST_OUTPUTS};
 
 // n outputs, memory m, and room for four generators, of which the first n count.
-#[derive(Drop)]
+#[derive(Clone, Copy)]
 pub struct Code {
     pub outputs: u32,
     pub memory: u32,

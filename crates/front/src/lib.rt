@@ -15,7 +15,7 @@ const MOST_READINGS: usize = 864;
 const FURTHEST: u32 = 127;
 
 // A front end is one of three: a gain; an offset and a gain; or a bare threshold.
-#[derive(Drop)]
+#[derive(Clone, Copy)]
 pub enum FrontEnd {
     Gain(f32),
     Offset { offset: f32, gain: f32 },
@@ -23,14 +23,14 @@ pub enum FrontEnd {
 }
 
 // The lowest and the highest reading.
-#[derive(Drop)]
+#[derive(Clone, Copy)]
 pub struct Report {
     pub lowest: f32,
     pub highest: f32,
 }
 
 // What `front` answers: the number of symbols written and the report, or a refusal.
-#[derive(Drop)]
+#[derive(Clone, Copy)]
 pub enum Fronted {
     Done { count: usize, report: Report },
     BadSize,

@@ -21,7 +21,7 @@ use writer::writer::{DecodedSheet, decode_sheet};
 
 // n outputs, memory m, and room for four generators, of which the first n count.
 #[repr(C)]
-#[derive(Drop)]
+#[derive(Clone, Copy)]
 pub struct Code {
     pub outputs: u32,
     pub memory: u32,
@@ -30,7 +30,7 @@ pub struct Code {
 
 // What an operation hands back: the paper's number, then the metric, the steps and a length; what has no meaning there is 0.
 #[repr(C)]
-#[derive(Drop)]
+#[derive(Clone, Copy)]
 pub struct Answer {
     pub number: u32,
     pub metric: u32,
@@ -40,7 +40,7 @@ pub struct Answer {
 
 // A front end: the form, and the numbers of all forms. Those that the form lacks are ignored.
 #[repr(C)]
-#[derive(Drop)]
+#[derive(Clone, Copy)]
 pub struct FrontEnd {
     pub form: u32,
     pub offset: f32,
@@ -51,7 +51,7 @@ pub struct FrontEnd {
 // What the front end hands back: the paper's number, how many symbols were written, the index of a reading that is not finite, and the
 // report.
 #[repr(C)]
-#[derive(Drop)]
+#[derive(Clone, Copy)]
 pub struct Report {
     pub number: u32,
     pub count: u32,

@@ -17,7 +17,7 @@ const WORDS_PER_NODE: usize = 3;
 
 // What `decode` answers: the message is written, with its metric and the steps that it took; or a refusal, in the order of the paper's
 // numbers 1 to 5, with the steps that were done, and with the least metric where it is known.
-#[derive(Drop)]
+#[derive(Clone, Copy)]
 pub enum Decoded {
     Done { metric: u32, steps: u32 },
     BadCode,
@@ -29,7 +29,7 @@ pub enum Decoded {
 
 // What a decode came to before anything is written: its answer, how many rows the working memory shows, and, where the message is
 // found, the row of the terminal.
-#[derive(Drop)]
+#[derive(Clone, Copy)]
 pub struct Settled {
     pub decoded: Decoded,
     pub rows: usize,

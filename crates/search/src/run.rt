@@ -11,7 +11,7 @@ use store::{Held, first_open, row, start};
 
 // How the search ended: at the terminal, with its cost, the steps, the count of its least paths and its row; without room for the step
 // after these; with the allowance spent.
-#[derive(Drop)]
+#[derive(Clone, Copy)]
 pub enum Reached {
     Terminal {
         metric: u64,
@@ -24,7 +24,7 @@ pub enum Reached {
 }
 
 // And how many rows the memory then shows.
-#[derive(Drop)]
+#[derive(Clone, Copy)]
 pub struct Halt {
     pub rows: usize,
     pub reached: Reached,

@@ -13,7 +13,7 @@ use store::{Held, add, close, find, join, lower, row};
 const CAP: u64 = 2;
 
 // How many rows there are after a try, and whether one more had no room.
-#[derive(Drop)]
+#[derive(Clone, Copy)]
 pub struct Tally {
     pub rows: usize,
     pub full: bool,

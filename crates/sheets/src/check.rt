@@ -17,7 +17,7 @@ use codes::table::{Code, keeps_rules};
 const MOST_ENTRIES: u16 = 4096;
 
 // What `check` answers: the metric of an accepted sheet, or a refusal.
-#[derive(Drop)]
+#[derive(Clone, Copy)]
 pub enum Checked {
     Accepted(u32),
     BadCode,

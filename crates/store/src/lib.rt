@@ -17,7 +17,7 @@ const LARGEST: u64 = 18446744073709551615;
 
 // A row of the memory: a node with its cost so far, how many paths of that cost were found up to the cap, the index of the row before
 // it and the input between them, and whether it was expanded.
-#[derive(Drop)]
+#[derive(Clone, Copy)]
 pub struct Held {
     pub cost: u64,
     pub level: u64,

@@ -18,7 +18,7 @@ use store::close;
 
 // What `decode_sheet` answers: the message and the sheet are written, with the metric, the steps and the sheet's bytes; or a refusal of
 // `decode`; or the sheet needs so many bytes.
-#[derive(Drop)]
+#[derive(Clone, Copy)]
 pub enum DecodedSheet {
     Done {
         metric: u32,
