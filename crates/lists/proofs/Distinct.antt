@@ -34,6 +34,7 @@ module _ {A : Type 0} where
 
     -- the same members
     pub distinct_in : (l : List A) → Within l (distinct same l)
+    distinct_in [] a m = elim m [ ]
     distinct_in (x ∷ l) a m = go (test (any (same x) (distinct same l))) m (λ k. distinct_in l a k)
       where
         go : Dec (T (any (same x) (distinct same l))) → a ∈ (x ∷ l) → (a ∈ l → a ∈ distinct same l) → a ∈ distinct same (x ∷ l)

@@ -10,6 +10,8 @@ use Rattle.lists.proofs.Membership.{◌∈◌, here, further, member-cast}
 -- no member is below it
 pub least_le : (l : List ℕ) {a : ℕ} → a ∈ l → least l ≤ a
 unfolding least
+least_le [] {a = a} x' = elim x' [ ]
+least_le (x ∷ []) {a = a} (further m) = elim m [ ]
 least_le (x ∷ []) (here e) = omega arith
 least_le (x ∷ y ∷ l) (here e) = omega arith
 least_le (x ∷ y ∷ l) {a} (further m) = let h : least (y ∷ l) ≤ a = least_le (y ∷ l) m in omega arith
@@ -26,4 +28,5 @@ least_cons x (y ∷ l) = go (dec_le x (least (y ∷ l))) (least_cons y l)
 
 -- it is attained
 pub least_of : {l : List ℕ} {a : ℕ} → a ∈ l → least l ∈ l
+least_of {l = []} {a = a} m = elim m [ ]
 least_of {l = x ∷ l} m = least_cons x l

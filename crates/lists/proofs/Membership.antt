@@ -46,10 +46,12 @@ module _ {A : Type 0} where
 
   -- a list with a member is not empty
   pub member_length : {l : List A} {a : A} → a ∈ l → 0 < length l
+  member_length {l = []} {a = a} m = elim m [ ]
   member_length {l = x ∷ l} m = omega arith
 
   -- a list with a member and no more than one is that member alone
   pub only_member : (l : List A) {a : A} → a ∈ l → length l ≤ 1 → l ≡ a ∷ []
+  only_member [] {a = a} m h = elim m [ ]
   only_member (x ∷ []) m h = ap (λ (y : A). y ∷ []) (sym (singleton-out m))
   only_member (x ∷ y ∷ l) m h = absurd (omega arith)
 
@@ -110,9 +112,10 @@ module _ {A : Type 0} where
     keep_none (x ∷ l) h = keep_no x l (h x (here refl)) ∙ keep_none l (λ y m. h y (further m))
 
     -- the kept members are those that pass
-    pub keep_in : {l : List A} {a : A} → a ∈ l → T (p a) → a ∈ keep p l
+    pub keep_in : {a : A} {l : List A} → a ∈ l → T (p a) → a ∈ keep p l
+    keep_in {a = a} {l = []} x5 h = elim x5 [ ]
     keep_in {l = x ∷ l} (here e) h = rw (keep_yes x l (subst (λ (y : A). T (p y)) e h)) (here e)
-    keep_in {l = x ∷ l} {a = a} (further m) h = go (test (p x)) (keep_in m h)
+    keep_in {a = a} {l = x ∷ l} (further m) h = go (test (p x)) (keep_in m h)
       where
         go : Dec (T (p x)) → a ∈ keep p l → a ∈ keep p (x ∷ l)
         go (yes t) k = rw (keep_yes x l t) (further k)
@@ -151,12 +154,14 @@ module _ {A : Type 0} where
     -- and back
     pub all_out : (l : List A) → T (all p l) → Every (λ a. T (p a)) l
     unfolding all
+    all_out [] h a x'' = elim x'' [ ]
     all_out (x ∷ l) h a (here e) = subst (λ (y : A). T (p y)) (sym e) (and_out (p x) (all p l) h).0
     all_out (x ∷ l) h a (further m) = all_out l (and_out (p x) (all p l) h).1 a m
 
     -- any: some member passes
-    pub any_in : {l : List A} {a : A} → a ∈ l → T (p a) → T (any p l)
+    pub any_in : {a : A} {l : List A} → a ∈ l → T (p a) → T (any p l)
     unfolding any
+    any_in {a = a} {l = []} x5 h = elim x5 [ ]
     any_in {l = x ∷ l} (here e) h = or_left (p x) (any p l) (subst (λ (y : A). T (p y)) e h)
     any_in {l = x ∷ l} (further m) h = or_right (p x) (any p l) (any_in m h)
 
@@ -169,6 +174,7 @@ module _ {A : Type 0} where
     -- to take it out of the test
     pub any_out : (l : List A) → T (any p l) → Passing l
     unfolding any
+    any_out [] h = elim h [ ]
     any_out (x ∷ l) h = go (or_out (p x) (any p l) h) (λ k. any_out l k)
       where
         go : T (p x) ⊎ T (any p l) → (T (any p l) → Passing l) → Passing (x ∷ l)
@@ -195,8 +201,9 @@ module _ {A B : Type 0} where
     pub inner : b ∈ f source
 
   -- a member of one of the lists is a member
-  pub flat_map_in : (f : A → List B) {l : List A} {a : A} {b : B} → a ∈ l → b ∈ f a → b ∈ flat_map f l
+  pub flat_map_in : (f : A → List B) {a : A} {l : List A} {b : B} → a ∈ l → b ∈ f a → b ∈ flat_map f l
   unfolding flat_map
+  flat_map_in f {a = a} {l = []} {b = b} x5 k = elim x5 [ ]
   flat_map_in f {l = x ∷ l} {b = b} (here e) k = append_left (flat_map f l) (subst (λ (y : A). b ∈ f y) e k)
   flat_map_in f {l = x ∷ l} (further m) k = append_right (f x) (flat_map_in f m k)
 

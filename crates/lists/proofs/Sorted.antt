@@ -68,6 +68,7 @@ module _ {A : Type 0} (less : A → A → Bool) where
   -- sort keeps the members
   pub sort_in : (l : List A) → Within l (sort less l)
   unfolding sort
+  sort_in [] a x' = elim x' [ ]
   sort_in (x ∷ l) a (here e) = insert_in x (sort less l) a (here e)
   sort_in (x ∷ l) a (further m) = insert_in x (sort less l) a (further (sort_in l a m))
 
@@ -91,6 +92,7 @@ module _ {A : Type 0} (less : A → A → Bool) where
 
   -- a member of a sorted list is in the front, or all of the front is before it
   pub take_or_after : (n : ℕ) (l : List A) → Sorted l → (a : A) → a ∈ l → (a ∈ take n l) ⊎ Every (λ x. T (less x a)) (take n l)
+  take_or_after (suc n) [] s a m = elim m [ ]
   take_or_after zero l s a m = inr (λ b k. absurd (nil-out k))
   take_or_after (suc n) (x ∷ l) s a (here e) = inl (here e)
   take_or_after (suc n) (x ∷ l) s a (further m) = go (take_or_after n l s.1 a m)
@@ -101,6 +103,7 @@ module _ {A : Type 0} (less : A → A → Bool) where
 
   -- what stands in front of a member is before it
   pub sorted_append : (p q : List A) (z : A) → Sorted (p ++ z ∷ q) → Every (λ x. T (less x z)) p
+  sorted_append [] q z s y x'' = elim x'' [ ]
   sorted_append (x ∷ p) q z s y (here e) = subst (λ (u : A). T (less u z)) (sym e) (s.0 z (append_right p (here refl)))
   sorted_append (x ∷ p) q z s y (further m) = sorted_append p q z s.1 y m
 

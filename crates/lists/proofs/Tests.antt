@@ -16,6 +16,7 @@ true_in b e = rw e tt
 
 -- and back; `rw (true-out b h)` and `rw (false-out b h)` go on with a choice by the test
 pub true_out : (b : Bool) → T b → b ≡ true
+true_out false h = elim h [ ]
 true_out true h = refl
 
 -- a test that fails
@@ -27,14 +28,17 @@ false_out false h = refl
 
 -- both
 pub and_in : (a b : Bool) → T a → T b → T (a && b)
+and_in false b h k = elim h [ ]
 and_in true b h k = k
 
 -- and back
 pub and_out : (a b : Bool) → T (a && b) → T a × T b
+and_out false b h = elim h [ ]
 and_out true b h = (tt, h)
 
 -- one of them
 pub or_left : (a b : Bool) → T a → T (a || b)
+or_left false b h = elim h [ ]
 or_left true b h = tt
 
 -- or the other

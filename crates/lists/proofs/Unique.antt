@@ -43,18 +43,21 @@ module _ {A : Type 0} where
 
   -- the list without the member that m points at
   without : {a : A} (l : List A) → a ∈ l → List A
+  without {a = a} [] x' = elim x' [ ]
   without (x ∷ xs) (here e) = xs
   without (x ∷ xs) (further m) = x ∷ without xs m
 
   -- it is one shorter
   length_without : {a : A} (l : List A) (m : a ∈ l) → length l ≡ suc (length (without l m))
   unfolding without
+  length_without {a = a} [] m = elim m [ ]
   length_without (x ∷ xs) (here e) = refl
   length_without (x ∷ xs) (further m) = ap suc (length_without xs m)
 
   -- and has every other member
   without_in : {a b : A} (l : List A) (m : a ∈ l) → (b ≡ a → ⊥) → b ∈ l → b ∈ without l m
   unfolding without
+  without_in {a = a} {b = b} [] m d _ = elim m [ ]
   without_in (x ∷ xs) (here e) d (here f) = absurd (d (f ∙ sym e))
   without_in (x ∷ xs) (here e) d (further n) = n
   without_in (x ∷ xs) (further m) d (here f) = here f
