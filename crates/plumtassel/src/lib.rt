@@ -1,6 +1,6 @@
 // The C face: one exported function for each operation, thin. It takes the caller's structs apart, calls the operation and puts the
 // answer together; what it promises is the operation's own definition. include/plumtassel.h declares these functions for C.
-ghost use Rattle.std.specs.Prelude.{◌≡◌, ◌≤◌};
+ghost use Rattle.std.specs.Prelude.{◌≡◌, ◌≤◌, length as len};
 ghost use Rattle.blocks.specs.Bounds.{longest_block};
 ghost use Rattle.codes.specs.Codes.{house_code};
 ghost use Rattle.codes.specs.Encoding.{encoding};
@@ -95,10 +95,8 @@ pub extern "C" fn plumtassel_decode(
     work: &mut [u64],
     message: &mut [u8],
 ) -> Answer
-    ensures* { do
-      words ← (⟦work.len()⟧).entry
-      ⌜ (result, message.new)
-          ≡ decoded (decoding (code_of code) length symbols.now room allowance words message.old) ⌝ }
+    ensures { (result, message.new)
+        ≡ decoded (decoding (code_of code) length symbols.now room allowance (len work.old) message.old) }
 {
     let answer = decode(
         opened(code),
@@ -124,10 +122,8 @@ pub extern "C" fn plumtassel_decode_sheet(
     message: &mut [u8],
     sheet: &mut [u8],
 ) -> Answer
-    ensures* { do
-      words ← (⟦work.len()⟧).entry
-      let handed = sheeting (code_of code) length symbols.now room allowance words message.old sheet.old
-      ⌜ (result, message.new, sheet.new) ≡ sheeted handed ⌝ }
+    ensures { (result, message.new, sheet.new)
+        ≡ sheeted (sheeting (code_of code) length symbols.now room allowance (len work.old) message.old sheet.old) }
 {
     let answer = decode_sheet(
         opened(code),

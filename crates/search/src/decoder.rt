@@ -1,5 +1,5 @@
 // The decoder.
-ghost use Rattle.std.specs.Prelude.{◌≡◌, true};
+ghost use Rattle.std.specs.Prelude.{◌≡◌, true, length as len};
 ghost use Rattle.codes.specs.Codes.{lawful};
 ghost use Rattle.search.specs.Decoding.{told, sizes_fit, decoding};
 ghost use Rattle.search.specs.Work.{trellis_in, Sized, Lent};
@@ -47,10 +47,8 @@ pub fn decode(
     work: &mut [u64],
     message: &mut [u8],
 ) -> Decoded
-    ensures* { do
-      words ← (⟦work.len()⟧).entry
-      ⌜ told result message.new
-          ≡ decoding code length symbols.now room allowance words message.old ⌝ }
+    ensures { told result message.new
+        ≡ decoding code length symbols.now room allowance (len work.old) message.old }
 {
     let settled = settle(code, length, symbols, room, allowance, work, message.len());
     let decoded = settled.decoded;

@@ -1,5 +1,5 @@
 // The claim of a sheet of good form: the conditions A to D.
-ghost use Rattle.std.specs.Prelude.{◌≡◌, ◌+◌, ◌*◌, ◌<◌, length};
+ghost use Rattle.std.specs.Prelude.{◌≡◌, ◌+◌, ◌*◌, ◌<◌, length, length as len};
 ghost use Rattle.lists.specs.Lists.{all};
 ghost use Rattle.trellis.specs.Verdict.{entry};
 ghost use Rattle.blocks.specs.Packed.{seen_in};
@@ -142,7 +142,7 @@ fn tests_pass(
 
 // Whether a sheet of good form carries its claim for a block of plain numbers.
 fn holds(code: Code, length: usize, seen: &[u16], sheet: &[u8]) -> bool
-    requires* { do ⌜ Checkable code length (← ⟦seen.len()⟧) sheet.now ⌝ }
+    requires { Checkable code length (len seen.now) sheet.now }
     ensures { result ≡ carried (trellis_of code length (seen_in seen.now)) (sheet_read length sheet.now) }
 {
     let mut states = [0u64; LONGEST_PATH];
@@ -153,7 +153,7 @@ fn holds(code: Code, length: usize, seen: &[u16], sheet: &[u8]) -> bool
 
 // Whether a sheet of good form carries its claim.
 pub fn carries(code: Code, length: usize, symbols: &[i8], sheet: &[u8]) -> bool
-    requires* { do ⌜ Checkable code length (← ⟦symbols.len()⟧) sheet.now ⌝ }
+    requires { Checkable code length (len symbols.now) sheet.now }
     ensures { result ≡ carried (trellis_of code length (view symbols.now)) (sheet_read length sheet.now) }
 {
     let mut seen = [0u16; LONGEST_BLOCK];

@@ -86,6 +86,7 @@ met_some t j = length_some_met t j (origin ∷ []) ((λ m. elim m [ ]), tt) (λ 
   where
     go : (x : Node) → x ∈ (origin ∷ []) → x ∈ met_nodes t j
     go x (here e) = here e
+    go x (further m) = elim m [ ]
 
 -- ---- E
 

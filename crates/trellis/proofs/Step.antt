@@ -53,6 +53,7 @@ at_most_dearer x y c h k = go (eq_or_lt y.cost c (omega arith))
 sorted_next : (l : List Entry) (j : ℕ) (z : Entry) → Sorted before l → z ∈ l → (z ∈ take j l → ⊥)
     → ((e : Entry) → e ∈ l → (e ∈ take j l) ⊎ AtMost z e)
     → take (suc j) l ≡ take j l ++ (z ∷ [])
+sorted_next [] j z s m new f = elim m [ ]
 sorted_next (y ∷ l) zero z s m new f = ap (λ (u : Entry). u ∷ []) (go m (f y (here refl)))
   where
     go : z ∈ (y ∷ l) → (y ∈ []) ⊎ AtMost z y → y ≡ z

@@ -1,5 +1,5 @@
 // The decoder that also writes the honest sheet.
-ghost use Rattle.std.specs.Prelude.{◌≡◌, true, length};
+ghost use Rattle.std.specs.Prelude.{◌≡◌, true, length, length as len};
 ghost use Rattle.std.proofs.lemmas.List.Edits.{sets};
 ghost use Rattle.lists.specs.Lists.{all};
 ghost use Rattle.codes.specs.Encoding.{is_bit};
@@ -54,10 +54,8 @@ pub fn decode_sheet(
     message: &mut [u8],
     sheet: &mut [u8],
 ) -> DecodedSheet
-    ensures* { do
-      words ← (⟦work.len()⟧).entry
-      ⌜ told result message.new sheet.new
-          ≡ sheeting code length symbols.now room allowance words message.old sheet.old ⌝ }
+    ensures { told result message.new sheet.new
+        ≡ sheeting code length symbols.now room allowance (len work.old) message.old sheet.old }
 {
     let settled = settle(code, length, symbols, room, allowance, work, message.len());
     let decoded = settled.decoded;
