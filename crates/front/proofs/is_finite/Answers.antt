@@ -4,8 +4,7 @@ use mathlib.Core.Bool.{true, false, true≢false, false≢true}
 use lib.Ieee as Ieee
 use lib.Ieee.{Float, nan, inf, fin}
 use lib.Ieee.Scale.{finite}
-use Rattle.front.proofs.is_finite.Statement.{statement}
-use Rattle.front.proofs.is_finite.Tie as tie
+use Rattle.front.proofs.is_finite.Goals as goal
 
 -- below the one infinity, what is left to ask is whether it is above the other
 below : (x : Float) → Ieee.lt x (inf false) ≡ true → Ieee.lt (inf true) x ≡ finite x
@@ -23,17 +22,14 @@ not_below (inf true) h = absurd (true≢false h)
 not_below (inf false) h = refl
 not_below (fin s m e) h = absurd (true≢false h)
 
-float-from-bits-infinity : tie.Need-float-from-bits-infinity
+pub float_from_bits-infinity : goal.float_from_bits-infinity
 unfolding Ieee.nan_bits
-float-from-bits-infinity c = tt
+float_from_bits-infinity c = tt
 
-returns : tie.Need-returns
-unfolding Ieee.of_bits Ieee.neg
-returns c = below c.before.args.number c.if1.true
+pub returns-then-number-infinity : goal.returns-then-number-infinity
+unfolding Ieee.neg Ieee.of_bits
+returns-then-number-infinity c = below c.args.number c.if-number-infinity.true
 
-returns-2 : tie.Need-returns-2
+pub returns-else-number-infinity : goal.returns-else-number-infinity
 unfolding Ieee.of_bits
-returns-2 c = not_below c.before.args.number c.if1.false
-
-pub is-finite-spec : {M : Type 1} → statement M
-is-finite-spec = tie.close (tie.spec float-from-bits-infinity returns returns-2)
+returns-else-number-infinity c = not_below c.args.number c.if-number-infinity.false
