@@ -10,6 +10,7 @@ use lib.Pow.{pow_pos, pow_mono}
 use Rattle.front.specs.Rounding.{field, nearest}
 use Rattle.front.proofs.Rounding.{led, one, small, large, up, down}
 use Rattle.front.proofs.distance.Goals as goal
+use Rattle.front.proofs.distance.Goals.{then-one-rest, else-one-rest}
 
 -- the shift as the machine has it
 abbrev shifted : ℕ → ℕ
@@ -30,24 +31,26 @@ returns-then-exponent-gt133 c = sym (min-eq_left (large c.args.bits c.if-exponen
 
 pub returns-then-near-gt-FURTHEST : goal.returns-then-near-gt-FURTHEST
 returns-then-near-gt-FURTHEST c =
-    let near : c.if-one-rest.near ≡ nearest c.args.bits = let bits = c.args.bits in
+    let bits = c.args.bits in
     let low = c.if-exponent-lt126.false in
     let high = c.if-exponent-gt133.false in
     let e = exact bits low in
-    ⊎_elim
-    (λ w. w.1 ∙ rw e (sym (up bits low high (rw e at w.0.taken))))
-    (λ w. w.1 ∙ rw e (sym (down bits low high (rw e at w.0.left))))
-    c.if-one-rest.branch in
+    let near : c.if-one-rest.near ≡ nearest bits =
+    elim c.if-one-rest.branch [
+      then-one-rest w ↦ w.near-is ∙ rw e (sym (up bits low high (rw e at w.if-one-rest.true)))
+      | else-one-rest w ↦ w.near-is ∙ rw e (sym (down bits low high (rw e at w.if-one-rest.false)))
+    ] in
     rw (← near) (sym (min-eq_left (le_of_lt c.if-near-gt-FURTHEST.true)))
 
 pub returns-else-near-gt-FURTHEST : goal.returns-else-near-gt-FURTHEST
 returns-else-near-gt-FURTHEST c =
-    let near : c.if-one-rest.near ≡ nearest c.args.bits = let bits = c.args.bits in
+    let bits = c.args.bits in
     let low = c.if-exponent-lt126.false in
     let high = c.if-exponent-gt133.false in
     let e = exact bits low in
-    ⊎_elim
-    (λ w. w.1 ∙ rw e (sym (up bits low high (rw e at w.0.taken))))
-    (λ w. w.1 ∙ rw e (sym (down bits low high (rw e at w.0.left))))
-    c.if-one-rest.branch in
+    let near : c.if-one-rest.near ≡ nearest bits =
+    elim c.if-one-rest.branch [
+      then-one-rest w ↦ w.near-is ∙ rw e (sym (up bits low high (rw e at w.if-one-rest.true)))
+      | else-one-rest w ↦ w.near-is ∙ rw e (sym (down bits low high (rw e at w.if-one-rest.false)))
+    ] in
     rw (← near) (sym (min-eq_right c.if-near-gt-FURTHEST.false))

@@ -14,6 +14,21 @@ use Rattle.front.specs.Limits.{furthest}
 use Rattle.front.specs.Rounding.{nearest, rounded}
 use Rattle.front.proofs.symbol_of_product.Goals as goal
 
+-- a distance n as a byte, and its negative
+module _ (n : ℕ) (h : n ≤ furthest) where
+  byte : to_z w8 n ≡ pos n
+  byte = to_z_pos w8 n (omega arith)
+
+  minus : pos 0 -ℤ to_z w8 n ≡ neg_ℤ (pos n)
+  minus = rw byte (+ℤ_idl (neg_ℤ (pos n)))
+
+  minus_fits : SFits w8 (pos 0 -ℤ to_z w8 n)
+  minus_fits = rw minus (go n h)
+    where
+      go : (n : ℕ) → n ≤ furthest → SFits w8 (neg_ℤ (pos n))
+      go zero h = record { sfits = omega arith }
+      go (suc n) h = record { sfits = omega arith }
+
 pub returns-then-bits-ge2147483648 : goal.returns-then-bits-ge2147483648
 unfolding rounded
 returns-then-bits-ge2147483648 c =
