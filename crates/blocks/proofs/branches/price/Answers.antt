@@ -39,7 +39,7 @@ loop-j-preserved c =
     let counted : length outputs ≡ c.args.code.outputs = let four = c.well_formed.0.1.1.1.1.0.1.0.1 in
     length-map (generators_of c.args.code) (output_bit c.with-register.result)
     ∙ length-take-le c.args.code.outputs c.args.code.generators (omega (arith, four, bounds.outputs_most)) in
-    let there : c.args.level * c.args.code.outputs + c.loop-j.j < length c.args.seen.now = omega (arith, c.pre.within) in
+    let there : c.args.level * c.args.code.outputs + c.loop-j.j < length c.args.seen.now = omega (arith, c.requires.within) in
     let compared : c.output_bit.result ≡ get_or outputs c.loop-j.j (output_bit c.with-register.result 0) = let code = c.args.code in
     c.output_bit.ensures
     ∙ sym (ap (output_bit c.with-register.result) (get_or-take code.outputs code.generators c.loop-j.j 0 c.loop-j-test.true))
