@@ -1,6 +1,11 @@
-// Numbers, symbols and floats read from bytes, for the programs. What lies behind the end reads as 0. Nothing here is promised but
-// that each call is safe and ends.
-ghost use Rattle.std.specs.Prelude.{◌<◌, ◌^◌};
+// Numbers, symbols and floats read from bytes, and bytes from an input, for the programs. What lies behind the end reads as 0. Nothing
+// here is promised but that each call is safe and ends.
+#![tactic(auto)]
+
+ghost use Rattle.std.specs.Prelude.{◌<◌, ◌≤◌, ◌^◌, length, IfOk};
+
+use std::io;
+use std::io::Read;
 
 // The number in the byte at a place.
 pub fn byte(record: &[u8], at: usize) -> usize {
@@ -99,4 +104,19 @@ pub fn readings(bytes: &[u8], into: &mut [f32]) {
         into[i] = float(bytes, 4 * i);
         i += 1;
     }
+}
+
+// Reads until the buffer is full or the input ends, and returns how many bytes stand at its start.
+pub fn read_full(input: &mut impl Read, into: &mut [u8]) -> io::Result<usize>
+    ensures { IfOk result (λ n. n ≤ length into.new) }
+{
+    let mut done = 0usize;
+    while done < into.len() {
+        let n = input.read(&mut into[done..])?;
+        if n == 0 {
+            break;
+        }
+        done += n;
+    }
+    Ok(done)
 }

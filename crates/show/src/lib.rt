@@ -1,80 +1,83 @@
 // What the programs' tables are printed with: words, numbers, bits, symbols, and floats by their bits. Nothing here is promised but
 // that each call is safe and ends; what a program prints is compared with its expected output.
-use libc::STDOUT_FILENO;
+#![tactic(auto)]
+
+use std::io;
 
 // How many bytes of a long list `first_digits` shows.
 const SHOWN: usize = 24;
 
-pub fn text(words: &[u8]) {
-    io::write_all(STDOUT_FILENO, words);
+pub fn text(rt: &impl Print, words: &[u8]) -> io::Result<()> {
+    rt.write_all(words)
 }
 
-pub fn number(x: u64) {
-    io::print_decimal(STDOUT_FILENO, x);
+pub fn number(rt: &impl Print, x: u64) -> io::Result<()> {
+    print!(rt; "{x}")
 }
 
-pub fn count(n: usize) {
-    number(n as u64);
+pub fn count(rt: &impl Print, n: usize) -> io::Result<()> {
+    number(rt, n as u64)
 }
 
-pub fn word(x: u32) {
-    number(x as u64);
+pub fn word(rt: &impl Print, x: u32) -> io::Result<()> {
+    number(rt, x as u64)
 }
 
 // One byte as a digit; what is no digit is a '?'.
-pub fn digit(x: u8) {
+pub fn digit(rt: &impl Print, x: u8) -> io::Result<()> {
     if x < 10 {
-        number(x as u64);
+        number(rt, x as u64)
     } else {
-        text(b"?");
+        text(rt, b"?")
     }
 }
 
 // Bytes as digits, a space before each further group.
-pub fn digits(bytes: &[u8], group: usize) {
+pub fn digits(rt: &impl Print, bytes: &[u8], group: usize) -> io::Result<()> {
     let mut left = group;
     let mut i = 0usize;
     while i < bytes.len() {
         if left == 0 {
-            text(b" ");
+            text(rt, b" ")?;
             left = group;
         }
-        digit(bytes[i]);
+        digit(rt, bytes[i])?;
         if 0 < left {
             left -= 1;
         }
         i += 1;
     }
+    Ok(())
 }
 
 // The first bytes as digits; three dots for the rest.
-pub fn first_digits(bytes: &[u8], group: usize) {
+pub fn first_digits(rt: &impl Print, bytes: &[u8], group: usize) -> io::Result<()> {
     if bytes.len() <= SHOWN {
-        digits(bytes, group);
-        return;
+        return digits(rt, bytes, group);
     }
-    digits(&bytes[..SHOWN], group);
-    text(b"...");
+    digits(rt, &bytes[..SHOWN], group)?;
+    text(rt, b"...")
 }
 
 // A symbol, in decimal.
-pub fn symbol(z: i8) {
+pub fn symbol(rt: &impl Print, z: i8) -> io::Result<()> {
     if z < 0 {
-        text(b"-");
-        count((0 - (z as i16)) as usize);
+        text(rt, b"-")?;
+        count(rt, (0 - (z as i16)) as usize)
     } else {
-        count(z as usize);
+        count(rt, z as usize)
     }
 }
 
 // Each after a space.
-pub fn symbols(zs: &[i8]) {
+pub fn symbols(rt: &impl Print, zs: &[i8]) -> io::Result<()> {
     let mut i = 0;
     while i < zs.len() {
-        text(b" ");
-        symbol(zs[i]);
+        text(rt, b" ")?;
+        symbol(rt, zs[i])?;
         i += 1;
     }
+    Ok(())
 }
 
 fn wide(bits: u32) -> u64 {
@@ -82,20 +85,21 @@ fn wide(bits: u32) -> u64 {
 }
 
 // A float's 32 bits in hexadecimal. A NaN has many patterns, so it is named.
-pub fn float(x: f32) {
+pub fn float(rt: &impl Print, x: f32) -> io::Result<()> {
     if x != x {
-        text(b"nan");
-        return;
+        return text(rt, b"nan");
     }
-    io::print_hex(STDOUT_FILENO, wide(f32::to_bits(x)), 8);
+    let bits = wide(f32::to_bits(x));
+    print!(rt; "{bits:08x}")
 }
 
 // Each after a space.
-pub fn floats(xs: &[f32]) {
+pub fn floats(rt: &impl Print, xs: &[f32]) -> io::Result<()> {
     let mut i = 0;
     while i < xs.len() {
-        text(b" ");
-        float(xs[i]);
+        text(rt, b" ")?;
+        float(rt, xs[i])?;
         i += 1;
     }
+    Ok(())
 }
