@@ -1,12 +1,14 @@
 // Decodes one announcement block from standard input and says what it found. The block is one byte for the house code's row (0 to 3),
 // two bytes for L, low first, then the symbols, one signed byte each.
+#![tactic(auto)]
+
 mod say;
 
 ghost use Rattle.std.specs.Prelude.{◌≡◌, length};
 
 use codes::table::house;
-use libc::STDIN_FILENO;
 use search::decoder::{Decoded, decode};
+use std::io;
 
 // The room that working memory is lent for: 48 KiB.
 const ROOM: usize = 2048;
@@ -32,24 +34,22 @@ fn memory() -> [u64; 6144]
     [0; 6144]
 }
 
-fn main() {
+fn main(rt: HostRuntime) -> io::Result<()> {
     let mut bytes = input();
-    let got = io::read_full(STDIN_FILENO, &mut bytes);
+    let got = fields::read_full(&mut rt.reader(), &mut bytes)?;
     if got < 3 {
-        say::too_short();
-        return;
+        return say::too_short(&rt);
     }
     if 1024 <= got {
-        say::too_long();
-        return;
+        return say::too_long(&rt);
     }
-    announced(&bytes[..got]);
+    announced(&rt, &bytes[..got])
 }
 
 // The block of a row, an L and symbols.
-fn announced(bytes: &[u8]) {
+fn announced(rt: &impl Print, bytes: &[u8]) -> io::Result<()> {
     if bytes.len() < 3 {
-        return;
+        return Ok(());
     }
     let row = fields::byte(bytes, 0);
     let bits = fields::short(bytes, 1);
@@ -57,15 +57,16 @@ fn announced(bytes: &[u8]) {
     let count = bytes.len() - 3;
     fields::symbols(&bytes[3..], &mut received);
     if count <= 1024 {
-        decoded(row, bits, &received[..count]);
+        decoded(rt, row, bits, &received[..count])?;
     }
+    Ok(())
 }
 
-fn decoded(row: usize, bits: usize, symbols: &[i8]) {
+fn decoded(rt: &impl Print, row: usize, bits: usize, symbols: &[i8]) -> io::Result<()> {
     let code = house(row);
     let mut work = memory();
     let mut message = input();
-    say::block(code, bits, symbols.len());
+    say::block(rt, code, bits, symbols.len())?;
     let answer = decode(
         code,
         bits,
@@ -76,11 +77,10 @@ fn decoded(row: usize, bits: usize, symbols: &[i8]) {
         &mut message,
     );
     let Decoded::Done { metric, steps } = answer else {
-        say::refused(answer);
-        return;
+        return say::refused(rt, answer);
     };
     if bits <= 1024 {
-        say::message(&message[..bits]);
+        say::message(rt, &message[..bits])?;
     }
-    say::found(metric, steps);
+    say::found(rt, metric, steps)
 }

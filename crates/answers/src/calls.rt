@@ -10,6 +10,7 @@ use plumtassel::{
     Code, FrontEnd, plumtassel_check, plumtassel_decode, plumtassel_decode_sheet,
     plumtassel_encode, plumtassel_front,
 };
+use std::io;
 
 const UNTOUCHED: u8 = 0xA5;
 
@@ -25,23 +26,23 @@ const MOST_SHEET: usize = 32768;
 
 // ---- kind 1
 
-pub fn encode(record: &[u8]) -> bool {
+pub fn encode(rt: &impl Print, record: &[u8]) -> io::Result<bool> {
     let end = PAYLOAD + size(record, COUNT);
     let length = size(record, OUTPUT);
     if record.len() < end {
-        return false;
+        return Ok(false);
     }
     if MOST_SYMBOLS < length {
-        return false;
+        return Ok(false);
     }
     let mut out = [UNTOUCHED; MOST_SYMBOLS];
-    encode_into(record, &record[PAYLOAD..end], &mut out[..length]);
-    true
+    encode_into(rt, record, &record[PAYLOAD..end], &mut out[..length])?;
+    Ok(true)
 }
 
-fn encode_into(record: &[u8], message: &[u8], out: &mut [u8]) {
+fn encode_into(rt: &impl Print, record: &[u8], message: &[u8], out: &mut [u8]) -> io::Result<()> {
     let told = plumtassel_encode(code(record), message, &mut *out);
-    lines::answer(1, told, out);
+    lines::answer(rt, 1, told, out)
 }
 
 fn code(record: &[u8]) -> Code {
@@ -60,42 +61,54 @@ fn code(record: &[u8]) -> Code {
 
 // ---- kinds 2 to 4
 
-pub fn of_block(record: &[u8], kind: u32) -> bool {
+pub fn of_block(rt: &impl Print, record: &[u8], kind: u32) -> io::Result<bool> {
     let count = size(record, COUNT);
     let end = PAYLOAD + count;
     if record.len() < end {
-        return false;
+        return Ok(false);
     }
     if MOST_SYMBOLS < count {
-        return false;
+        return Ok(false);
     }
     let mut received = [0i8; MOST_SYMBOLS];
     symbols(&record[PAYLOAD..end], &mut received);
     if kind == 2 {
-        return decode(record, &received[..count]);
+        return decode(rt, record, &received[..count]);
     }
     if kind == 3 {
-        return decode_sheet(record, &received[..count]);
+        return decode_sheet(rt, record, &received[..count]);
     }
-    check(record, &received[..count], &record[end..])
+    check(rt, record, &received[..count], &record[end..])
 }
 
-fn decode(record: &[u8], received: &[i8]) -> bool {
+fn decode(rt: &impl Print, record: &[u8], received: &[i8]) -> io::Result<bool> {
     let words = size(record, WORDS);
     let length = size(record, OUTPUT);
     if MOST_WORDS < words {
-        return false;
+        return Ok(false);
     }
     if MOST_MESSAGE < length {
-        return false;
+        return Ok(false);
     }
     let mut work = [0u64; MOST_WORDS];
     let mut message = [UNTOUCHED; MOST_MESSAGE];
-    decode_into(record, received, &mut work[..words], &mut message[..length]);
-    true
+    decode_into(
+        rt,
+        record,
+        received,
+        &mut work[..words],
+        &mut message[..length],
+    )?;
+    Ok(true)
 }
 
-fn decode_into(record: &[u8], received: &[i8], work: &mut [u64], message: &mut [u8]) {
+fn decode_into(
+    rt: &impl Print,
+    record: &[u8],
+    received: &[i8],
+    work: &mut [u64],
+    message: &mut [u8],
+) -> io::Result<()> {
     let told = plumtassel_decode(
         code(record),
         size(record, LENGTH),
@@ -105,42 +118,44 @@ fn decode_into(record: &[u8], received: &[i8], work: &mut [u64], message: &mut [
         work,
         &mut *message,
     );
-    lines::answer(2, told, message);
+    lines::answer(rt, 2, told, message)
 }
 
-fn decode_sheet(record: &[u8], received: &[i8]) -> bool {
+fn decode_sheet(rt: &impl Print, record: &[u8], received: &[i8]) -> io::Result<bool> {
     let words = size(record, WORDS);
     let length = size(record, OUTPUT);
     let sheet_length = size(record, SHEET);
     if MOST_WORDS < words {
-        return false;
+        return Ok(false);
     }
     if MOST_MESSAGE < length {
-        return false;
+        return Ok(false);
     }
     if MOST_SHEET < sheet_length {
-        return false;
+        return Ok(false);
     }
     let mut work = [0u64; MOST_WORDS];
     let mut message = [UNTOUCHED; MOST_MESSAGE];
     let mut sheet = [UNTOUCHED; MOST_SHEET];
     decode_sheet_into(
+        rt,
         record,
         received,
         &mut work[..words],
         &mut message[..length],
         &mut sheet[..sheet_length],
-    );
-    true
+    )?;
+    Ok(true)
 }
 
 fn decode_sheet_into(
+    rt: &impl Print,
     record: &[u8],
     received: &[i8],
     work: &mut [u64],
     message: &mut [u8],
     sheet: &mut [u8],
-) {
+) -> io::Result<()> {
     let told = plumtassel_decode_sheet(
         code(record),
         size(record, LENGTH),
@@ -151,24 +166,30 @@ fn decode_sheet_into(
         &mut *message,
         &mut *sheet,
     );
-    lines::answer(3, told, message);
-    lines::written(sheet);
+    lines::answer(rt, 3, told, message)?;
+    lines::written(rt, sheet)
 }
 
-fn check(record: &[u8], received: &[i8], sheet: &[u8]) -> bool {
+fn check(rt: &impl Print, record: &[u8], received: &[i8], sheet: &[u8]) -> io::Result<bool> {
     let length = size(record, OUTPUT);
     if sheet.len() != size(record, SHEET_COUNT) {
-        return false;
+        return Ok(false);
     }
     if MOST_MESSAGE < length {
-        return false;
+        return Ok(false);
     }
     let mut message = [UNTOUCHED; MOST_MESSAGE];
-    check_into(record, received, sheet, &mut message[..length]);
-    true
+    check_into(rt, record, received, sheet, &mut message[..length])?;
+    Ok(true)
 }
 
-fn check_into(record: &[u8], received: &[i8], sheet: &[u8], message: &mut [u8]) {
+fn check_into(
+    rt: &impl Print,
+    record: &[u8],
+    received: &[i8],
+    sheet: &[u8],
+    message: &mut [u8],
+) -> io::Result<()> {
     let told = plumtassel_check(
         code(record),
         size(record, LENGTH),
@@ -176,34 +197,34 @@ fn check_into(record: &[u8], received: &[i8], sheet: &[u8], message: &mut [u8]) 
         sheet,
         &mut *message,
     );
-    lines::answer(4, told, message);
+    lines::answer(rt, 4, told, message)
 }
 
 // ---- kind 5
 
-pub fn front(record: &[u8]) -> bool {
+pub fn front(rt: &impl Print, record: &[u8]) -> io::Result<bool> {
     let count = size(record, COUNT);
     let length = size(record, OUTPUT);
     if MOST_SYMBOLS < count {
-        return false;
+        return Ok(false);
     }
     let end = PAYLOAD + 4 * count;
     if record.len() < end {
-        return false;
+        return Ok(false);
     }
     if MOST_SYMBOLS < length {
-        return false;
+        return Ok(false);
     }
     let mut read = [0.0f32; MOST_SYMBOLS];
     readings(&record[PAYLOAD..end], &mut read);
     let mut out = [UNTOUCHED_SYMBOL; MOST_SYMBOLS];
-    front_into(record, &read[..count], &mut out[..length]);
-    true
+    front_into(rt, record, &read[..count], &mut out[..length])?;
+    Ok(true)
 }
 
-fn front_into(record: &[u8], read: &[f32], out: &mut [i8]) {
+fn front_into(rt: &impl Print, record: &[u8], read: &[f32], out: &mut [i8]) -> io::Result<()> {
     let told = plumtassel_front(front_end(record), read, &mut *out);
-    lines::report(told, out);
+    lines::report(rt, told, out)
 }
 
 fn front_end(record: &[u8]) -> FrontEnd {

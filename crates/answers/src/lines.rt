@@ -4,51 +4,51 @@ ghost use Rattle.std.specs.Prelude.{◌<◌, ◌^◌};
 use fields::unsigned;
 use plumtassel::{Answer, Report};
 use show::{number, text, word};
+use std::io;
 
 // The kind, the answer and the checksum of the buffer that was written.
-pub fn answer(kind: u32, told: Answer, buffer: &[u8]) {
-    word(kind);
-    spaced(told.number);
-    spaced(told.metric);
-    spaced(told.steps);
-    spaced(told.length);
-    written(buffer);
+pub fn answer(rt: &impl Print, kind: u32, told: Answer, buffer: &[u8]) -> io::Result<()> {
+    word(rt, kind)?;
+    spaced(rt, told.number)?;
+    spaced(rt, told.metric)?;
+    spaced(rt, told.steps)?;
+    spaced(rt, told.length)?;
+    written(rt, buffer)
 }
 
 // The checksum of a buffer.
-pub fn written(buffer: &[u8]) {
-    text(b" ");
-    number(checksum(buffer));
+pub fn written(rt: &impl Print, buffer: &[u8]) -> io::Result<()> {
+    text(rt, b" ")?;
+    number(rt, checksum(buffer))
 }
 
 // The same of a report; floats by their bits.
-pub fn report(told: Report, symbols: &[i8]) {
-    word(5);
-    spaced(told.number);
-    spaced(told.count);
-    spaced(told.index);
-    float(told.lowest);
-    float(told.highest);
-    text(b" ");
-    number(signed_checksum(symbols));
+pub fn report(rt: &impl Print, told: Report, symbols: &[i8]) -> io::Result<()> {
+    word(rt, 5)?;
+    spaced(rt, told.number)?;
+    spaced(rt, told.count)?;
+    spaced(rt, told.index)?;
+    float(rt, told.lowest)?;
+    float(rt, told.highest)?;
+    text(rt, b" ")?;
+    number(rt, signed_checksum(symbols))
 }
 
-pub fn end() {
-    text(b"\n");
+pub fn end(rt: &impl Print) -> io::Result<()> {
+    text(rt, b"\n")
 }
 
-fn spaced(x: u32) {
-    text(b" ");
-    word(x);
+fn spaced(rt: &impl Print, x: u32) -> io::Result<()> {
+    text(rt, b" ")?;
+    word(rt, x)
 }
 
 // A report holds no NaN: none is ever handed back.
-fn float(x: f32) {
+fn float(rt: &impl Print, x: f32) -> io::Result<()> {
     if x != x {
-        text(b" nan");
-        return;
+        return text(rt, b" nan");
     }
-    spaced(f32::to_bits(x));
+    spaced(rt, f32::to_bits(x))
 }
 
 // Of all bytes: start with 1; for each multiply by 31 and add it; keep 32 bits.
