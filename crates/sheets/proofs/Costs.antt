@@ -29,6 +29,7 @@ cost_further e es x h = rw (false_out (same e.node x) (λ t. h (same_equality.so
 
 -- an entry's cost is the one that is listed
 pub listed_one : (es : List Entry) → Sorted lower es → {e : Entry} → e ∈ es → listed_cost es e.node ≡ e.cost
+listed_one [] s {e = e} x'' = elim x'' [ ]
 listed_one (f ∷ es) s {e} (here h) = cost_here f es e.node (ap (λ (g : Entry). g.node) (sym h)) ∙ ap (λ (g : Entry). g.cost) (sym h)
 listed_one (f ∷ es) s {e} (further m) =
     cost_further f es e.node (λ h. earlier_order.irrefl e.node (subst (λ (x : Node). T (lower (record { cost = 0; node = x }) e)) h (s.0 e m)))

@@ -1,0 +1,27 @@
+-- `entries::rise` meets its contract: the entries from place i on rise exactly if all do. Assumes nothing.
+use mathlib.Core.Path.{◌≡◌, refl, sym, ◌∙◌}
+use mathlib.Core.List.{List}
+use Prim.Native.Nat.{ℕ, suc, ◌+◌, ◌-◌, ◌*◌, ◌≤◌, ◌<◌}
+use native.Mathlib.Numerals.{add-one}
+use native.Mathlib.Omega.{arith}
+use lib.ListN.{get_or, drop}
+use Rattle.lists.proofs.Decides.{Decides, decided_yes, decided_no}
+use Rattle.trellis.specs.Verdict.{Entry}
+use Rattle.trellis.proofs.Honest.{lower}
+use Rattle.sheets.specs.Bytes.{entry_at}
+use Rattle.sheets.specs.Checking.{rising}
+use Rattle.sheets.specs.Steps.{entries_in, key_of}
+use Rattle.trellis.proofs.Listing.{no_entry}
+use Rattle.sheets.proofs.Listing.{length_entries_in, neighbours_test, rising_next, rising_stop, rising_done}
+use Rattle.sheets.proofs.entries.rise.Given as goal
+
+-- the entries before i rise, up to the one at i
+pub record Climbing (entries : List Entry) (count i : ℕ) : Type 0 where
+  pub within : i ≤ count
+  pub rest : rising (drop i entries) ≡ rising entries
+
+abbrev pub invariant-loop-i : goal.invariant-loop-i
+invariant-loop-i l = Climbing (entries_in l.entries) l.count l.i
+
+abbrev pub decreases-loop-i : goal.decreases-loop-i
+decreases-loop-i l = l.count - l.i

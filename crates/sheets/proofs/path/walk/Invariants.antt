@@ -1,0 +1,32 @@
+-- `path::walk` meets its contract: what is written so far is the path so far (the record Walking). Assumes nothing.
+use borrow.Author.Rules.{rules}
+use mathlib.Core.Path.{◌≡◌, refl, ◌∙◌, subst}
+use mathlib.Core.List.{List}
+use Prim.Native.Nat.{ℕ, ◌+◌, ◌-◌, ◌^◌, ◌≤◌, ◌<◌}
+use native.Mathlib.Omega.{arith}
+use lib.ListN.{length, length-set}
+use lib.Pow.{pow_pos, pow_mono}
+use lib.Seq.{get_or-set_same}
+use Rattle.codes.proofs.Rules.{Bounds, lawful_out}
+use Rattle.trellis.specs.Trellis.{Trellis}
+use Rattle.blocks.specs.Blocks.{trellis_of}
+use Rattle.blocks.specs.Packed.{seen_in, greatest_price}
+use Rattle.blocks.proofs.Prices.{branch_within}
+use Rattle.sheets.specs.Bytes.{sheet_read}
+use Rattle.sheets.specs.Steps.{Walked}
+use Rattle.sheets.proofs.Walks.{Walking, walking_start, walking_next}
+use Rattle.sheets.proofs.path.walk.Given as goal
+
+-- so many levels are walked
+pub record Going (t : Trellis) (message : List ℕ) (bound : ℕ) (first-states first-metrics : List ℕ) (top : ℕ) (states metrics : List ℕ)
+    (state metric level : ℕ) : Type 0 where
+  pub within : level ≤ top
+  pub states_kept : length states ≡ length first-states
+  pub metrics_kept : length metrics ≡ length first-metrics
+  pub walking : Walking t message greatest_price bound states metrics state metric level
+
+abbrev pub invariant-loop-level : goal.invariant-loop-level
+invariant-loop-level l = Going (trellis_of l.code l.length (seen_in l.seen)) (sheet_read l.length l.sheet).message (2 ^ l.code.memory) l.initial.states l.initial.metrics l.top l.states l.metrics l.state l.metric l.level
+
+abbrev pub decreases-loop-level : goal.decreases-loop-level
+decreases-loop-level l = l.top - l.level
