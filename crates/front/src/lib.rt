@@ -1,5 +1,7 @@
 // The front end: document 01, 'From readings to symbols'. A block of readings goes through it to one symbol each; what `front` promises,
 // for every bit pattern of every float, is the one equation of its contract.
+#![tactic(auto)]
+
 ghost use Rattle.std.specs.Prelude.{◌≡◌, ◌++◌, map, min, T, length, drop};
 ghost use Rattle.std.specs.Float.Ieee.Scale.{finite};
 ghost use Rattle.front.specs.Limits.{furthest};

@@ -1,5 +1,7 @@
 // The C face: one exported function for each operation, thin. It takes the caller's structs apart, calls the operation and puts the
 // answer together; what it promises is the operation's own definition. include/plumtassel.h declares these functions for C.
+#![tactic(auto)]
+
 ghost use Rattle.std.specs.Prelude.{◌≡◌, ◌≤◌, length as len};
 ghost use Rattle.blocks.specs.Bounds.{longest_block};
 ghost use Rattle.codes.specs.Codes.{house_code};

@@ -1,4 +1,6 @@
 // The search in lent memory, and the decoder: document 01, 'Node order'.
+#![tactic(auto)]
+
 pub mod decoder;
 mod run;
 mod step;

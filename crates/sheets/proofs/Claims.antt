@@ -31,7 +31,7 @@ use Rattle.blocks.specs.Blocks.{trellis_of}
 use Rattle.blocks.proofs.Closing.{input_bit}
 use Rattle.sheets.specs.Bytes.{series, metric_place, bit_at, sheet_read}
 use Rattle.sheets.specs.Checking.{rising, carried}
-use Rattle.sheets.specs.Steps.{absent, early, Walked, on_path, onward, clear, all_passing, tested}
+use Rattle.sheets.specs.Steps.{absent, early, Walked, on_path, onward, all_passing, tested}
 use Rattle.sheets.proofs.Series.{length_series}
 use Rattle.sheets.proofs.Numbers.{Bytes, number_at_below}
 use Rattle.sheets.proofs.Octets.{Bits, bits_read}

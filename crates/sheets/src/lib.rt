@@ -1,4 +1,6 @@
 // The decision sheet: its bytes put and read, and the check.
+#![tactic(auto)]
+
 mod bytes;
 pub mod check;
 mod claim;

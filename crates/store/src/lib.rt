@@ -1,5 +1,7 @@
 // Nodes in lent memory: found, added, lowered, joined, closed, the first open one taken, the closed ones listed. Three words a row
 // (specs/Memory).
+#![tactic(auto)]
+
 ghost use Rattle.std.specs.Prelude.{◌≡◌, ◌+◌, ◌*◌, ◌^◌, ◌≤◌, ◌<◌, min, length};
 ghost use Rattle.trellis.specs.Trellis.{node};
 ghost use Rattle.trellis.specs.Search.{row_at, node_at, started, find_row, first_open, next_closed, added, lowered, joined, closed};

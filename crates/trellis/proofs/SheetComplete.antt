@@ -10,7 +10,7 @@ use native.Mathlib.Omega.{arith}
 use lib.Dec.{T}
 use Rattle.lists.proofs.Membership.{◌∈◌, here, further, singleton-out}
 use Rattle.lists.proofs.Tests.{true_out}
-use Rattle.trellis.specs.Trellis.{Trellis, Path, Node, node, ends, along, metric, end_node, terminal, cost}
+use Rattle.trellis.specs.Trellis.{Trellis, Path, Node, ends, along, metric, end_node, terminal, cost}
 use Rattle.trellis.specs.Verdict.{Entry, entry, priced, path_of, least_metric, least_messages}
 use Rattle.trellis.specs.Sheet.{onto, carries, honest}
 use Rattle.trellis.specs.Lawful.{Allowed, start, step, Lawful, Ends}

@@ -12,7 +12,7 @@ use native.Mathlib.Omega.{arith}
 use lib.ListN.{length}
 use Rattle.lists.proofs.Tests.{true_in}
 use Rattle.lists.proofs.Membership.{◌∈◌, here, nil-out, every_cons}
-use Rattle.trellis.specs.Trellis.{Trellis, Path, Node, node, terminal, ends, along, metric, end_node}
+use Rattle.trellis.specs.Trellis.{Trellis, Path, Node, terminal, ends, along, metric, end_node}
 use Rattle.trellis.specs.Verdict.{Entry, messages, path_of, least_metric, least_messages}
 use Rattle.trellis.specs.Sheet.{onto, carries}
 use Rattle.trellis.specs.Lawful.{Allowed, start, step, Lawful, Ends}

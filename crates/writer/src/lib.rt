@@ -1,3 +1,5 @@
 // The decoder that also writes the honest sheet of what it answers.
+#![tactic(auto)]
+
 mod entries;
 pub mod writer;

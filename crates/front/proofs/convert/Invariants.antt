@@ -1,24 +1,17 @@
 -- `front::convert` meets its contract. The invariant speaks of what is left to do: the symbols written so far stand before the buffer's
 -- own, and the report, with the readings that are left, comes to the report of the block. The measure is how many readings are left.
 -- Assumes nothing.
-use mathlib.Core.Path.{◌≡◌, refl, sym, ap, ◌∙◌}
+use mathlib.Core.Path.{◌≡◌}
 use mathlib.Core.List.{List, map}
-use Prim.Native.Nat.{ℕ, ◌-◌, ◌<◌, ◌≤◌}
-use native.Mathlib.Nat.{zero-add}
-use native.Mathlib.Numerals.{add-one}
-use native.Mathlib.Omega.{arith}
-use borrow.Author.Rules.{rules}
+use Prim.Native.Nat.{ℕ, ◌-◌, ◌≤◌}
 use lib.IntN.{ℤ}
-use lib.Ieee.{Float, nan}
-use lib.ListN.{length, get_or, drop, length-map, get_or-map}
-use lib.Seq.{paste, paste-suc, length-paste, take_all}
-use mir.Syntax.{w8}
-use mir.ValLaws.{to_z-of_z}
+use lib.Ieee.{Float}
+use lib.ListN.{length, drop}
+use lib.Seq.{paste}
 use Rattle.front.specs.Symbols.{symbol_of}
 use Rattle.front.specs.Reports.{seen_all, report_of}
 use Rattle.front.specs.declared.FrontEnd.{FrontEnd}
 use Rattle.front.specs.declared.Report.{Report}
-use Rattle.front.proofs.Blocks.{seen_first, seen_next, seen_done, finite_at}
 use Rattle.front.proofs.convert.Given as goal
 
 pub record Passed (front_end : FrontEnd) (readings : List Float) (symbols₀ symbols : List ℤ) (report : Report) (i : ℕ) : Type 0 where

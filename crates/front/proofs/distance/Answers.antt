@@ -1,14 +1,12 @@
 -- `front::distance` meets its contract, by the three ranges of the exponent's field (proofs/Rounding.antt). In the middle one the shift
 -- drops nothing, so that `one` is the number of parts that make 1. Assumes nothing.
 use mathlib.Core.Path.{◌≡◌, sym, ◌∙◌}
-use mathlib.Core.Logic.{⊎_elim}
-use Prim.Native.Nat.{ℕ, ◌-◌, ◌*◌, ◌%◌, ◌^◌, ◌≤◌, ◌<◌}
-use native.Mathlib.Nat.{min-eq_left, min-eq_right, mod-le, div-le_self, le_of_lt}
+use Prim.Native.Nat.{ℕ, ◌-◌, ◌*◌, ◌%◌, ◌^◌, ◌≤◌}
+use native.Mathlib.Nat.{min-eq_left, min-eq_right, le_of_lt}
 use native.Mathlib.Omega.{arith}
-use borrow.Author.Rules.{rules}
-use lib.Pow.{pow_pos, pow_mono}
+use lib.Pow.{pow_mono}
 use Rattle.front.specs.Rounding.{field, nearest}
-use Rattle.front.proofs.Rounding.{led, one, small, large, up, down}
+use Rattle.front.proofs.Rounding.{one, small, large, up, down}
 use Rattle.front.proofs.distance.Goals as goal
 use Rattle.front.proofs.distance.Goals.{then-one-rest, else-one-rest}
 
@@ -37,7 +35,7 @@ returns-then-near-gt-FURTHEST c =
     let e = exact bits low in
     let near : c.if-one-rest.near ≡ nearest bits =
     elim c.if-one-rest.branch [
-      then-one-rest w ↦ w.near-is ∙ rw e (sym (up bits low high (rw e at w.if-one-rest.true)))
+      | then-one-rest w ↦ w.near-is ∙ rw e (sym (up bits low high (rw e at w.if-one-rest.true)))
       | else-one-rest w ↦ w.near-is ∙ rw e (sym (down bits low high (rw e at w.if-one-rest.false)))
     ] in
     rw (← near) (sym (min-eq_left (le_of_lt c.if-near-gt-FURTHEST.true)))
@@ -50,7 +48,7 @@ returns-else-near-gt-FURTHEST c =
     let e = exact bits low in
     let near : c.if-one-rest.near ≡ nearest bits =
     elim c.if-one-rest.branch [
-      then-one-rest w ↦ w.near-is ∙ rw e (sym (up bits low high (rw e at w.if-one-rest.true)))
+      | then-one-rest w ↦ w.near-is ∙ rw e (sym (up bits low high (rw e at w.if-one-rest.true)))
       | else-one-rest w ↦ w.near-is ∙ rw e (sym (down bits low high (rw e at w.if-one-rest.false)))
     ] in
     rw (← near) (sym (min-eq_right c.if-near-gt-FURTHEST.false))

@@ -1,15 +1,11 @@
 -- `front::finite_run` meets its contract: what is passed and the run of the readings that are left make the block's run. The measure is
 -- how many are left. Assumes nothing.
-use mathlib.Core.Path.{◌≡◌, sym, ◌∙◌}
+use mathlib.Core.Path.{◌≡◌}
 use mathlib.Core.List.{List}
 use Prim.Native.Nat.{ℕ, ◌+◌, ◌-◌, ◌≤◌}
-use native.Mathlib.Omega.{arith}
-use borrow.Author.Rules.{rules}
-use borrow.Author.Tests.{not-true, not-false}
 use lib.Ieee.{Float}
 use lib.ListN.{length, drop}
 use Rattle.front.specs.Fronting.{finite_run}
-use Rattle.front.proofs.Blocks.{run_next, run_ends, run_done}
 use Rattle.front.proofs.finite_run.Given as goal
 
 pub record Passed (readings : List Float) (i : ℕ) : Type 0 where

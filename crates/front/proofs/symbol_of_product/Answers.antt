@@ -4,7 +4,6 @@ use mathlib.Core.Path.{◌≡◌}
 use Prim.Native.Nat.{ℕ, zero, suc, ◌≤◌}
 use native.Mathlib.Nat.{min-le_left}
 use native.Mathlib.Omega.{arith}
-use borrow.Author.Rules.{rules}
 use borrow.Author.Tests.{le-leb, lt-leb}
 use lib.IntN.{pos, neg_ℤ, ◌-ℤ◌, +ℤ_idl}
 use mir.Syntax.{w8}

@@ -1,6 +1,5 @@
 -- `plumtassel_check` meets its contract: the answer of `check`, said in the caller's struct. Assumes nothing.
 use mathlib.Core.Path.{sym, ap, ◌∙◌}
-use borrow.Author.Rules.{rules}
 use Rattle.codes.specs.declared.table.Code as codes
 use Rattle.sheets.specs.Checking.{checking}
 use Rattle.plumtassel.specs.declared.Answer.{Answer}

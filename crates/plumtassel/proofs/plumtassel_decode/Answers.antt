@@ -1,6 +1,5 @@
 -- `plumtassel_decode` meets its contract: the answer of `decode`, said in the caller's struct. Assumes nothing.
 use mathlib.Core.Path.{sym, ap, ◌∙◌}
-use borrow.Author.Rules.{rules}
 use lib.ListN.{length}
 use Rattle.codes.specs.declared.table.Code as codes
 use Rattle.search.specs.Decoding.{decoding}

@@ -2,7 +2,6 @@
 use mathlib.Core.Path.{◌≡◌, sym, ap, ◌∙◌}
 use mathlib.Core.List.{List}
 use lib.IntN.{ℤ}
-use borrow.Author.Rules.{rules}
 use Rattle.front.specs.Fronting.{fronting}
 use Rattle.front.specs.declared.FrontEnd as front
 use Rattle.plumtassel.specs.declared.Report.{Report}

@@ -1,5 +1,4 @@
 -- `store::add` meets its contract: a row written behind the last is a row more. Assumes nothing.
-use borrow.Author.Rules.{rules}
 use Rattle.store.proofs.Rows.{added_shows}
 use Rattle.store.proofs.add.Goals as goal
 

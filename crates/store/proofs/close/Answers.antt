@@ -1,5 +1,4 @@
 -- `store::close` meets its contract: row i is written as it was read, but closed. Assumes nothing.
-use borrow.Author.Rules.{rules}
 use mathlib.Core.Bool.{true}
 use native.Mathlib.Omega.{arith}
 use Rattle.store.proofs.Rows.{set_shows}

@@ -1,8 +1,7 @@
 -- `store::find` meets its contract: the rows passed are not the node's (the record Finding). Assumes nothing.
 use Prim.Native.Nat.{◌-◌}
-use native.Mathlib.Omega.{arith}
 use Rattle.trellis.specs.Trellis.{node}
-use Rattle.store.proofs.Scans.{Finding, finding_start, finding_stop, finding_next, finding_done}
+use Rattle.store.proofs.Scans.{Finding}
 use Rattle.store.proofs.find.Given as goal
 
 abbrev pub invariant-loop-i : goal.invariant-loop-i

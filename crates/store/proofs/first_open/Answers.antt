@@ -4,7 +4,7 @@ use mathlib.Core.Path.{◌≡◌}
 use Prim.Native.Nat.{suc, ◌*◌, ◌-◌, ◌≤◌}
 use native.Mathlib.Omega.{arith}
 use Rattle.store.specs.Memory.{order_at}
-use Rattle.store.proofs.Scans.{largest, Opening, opening_start, opening_closed, opening_later, opening_first, opening_done}
+use Rattle.store.proofs.Scans.{largest, Opening, opening_start, opening_closed, opening_later, opening_first}
 use Rattle.store.proofs.first_open.Goals as goal
 
 pub loop-i-init : goal.loop-i-init

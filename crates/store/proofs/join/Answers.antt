@@ -1,5 +1,4 @@
 -- `store::join` meets its contract: row i is written as it was read, but for the count. Assumes nothing.
-use borrow.Author.Rules.{rules}
 use mathlib.Core.Path.{◌≡◌}
 use Prim.Native.Nat.{◌+◌, min}
 use native.Mathlib.Omega.{arith}

@@ -1,5 +1,4 @@
 -- `store::lower` meets its contract: row i written is row i set. Assumes nothing.
-use borrow.Author.Rules.{rules}
 use mathlib.Core.Path.{refl}
 use Rattle.store.proofs.Rows.{set_shows}
 use Rattle.store.proofs.lower.Goals as goal

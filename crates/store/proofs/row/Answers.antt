@@ -1,5 +1,4 @@
 -- `store::row` meets its contract: the words are taken apart as the definition does, and each part is small. Assumes nothing.
-use borrow.Author.Rules.{rules}
 use mathlib.Core.Path.{sym}
 use Prim.Native.Nat.{◌*◌}
 use native.Mathlib.Omega.{arith}

@@ -1,5 +1,4 @@
 -- `store::start` meets its contract: the origin's row is a row more than none. Assumes nothing.
-use borrow.Author.Rules.{rules}
 use mathlib.Core.Bool.{false}
 use native.Mathlib.Omega.{arith}
 use Rattle.store.specs.declared.Held.{Held}

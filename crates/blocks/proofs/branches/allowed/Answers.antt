@@ -1,5 +1,4 @@
 -- `branches::allowed` meets its contract: its two tests are the definition's, whatever the block. Assumes nothing.
-use borrow.Author.Rules.{rules}
 use borrow.Author.Tests.{lt-ltb, le-ltb}
 use Prim.Native.Nat.{◌+◌, ◌≤◌, ◌<◌}
 use native.Mathlib.Omega.{arith}

@@ -1,12 +1,12 @@
 -- `view::see` meets its contract: writing the numbers that are left over the buffer as it is gives all of them (the record Filling).
 -- Assumes nothing.
 use mathlib.Core.Path.{◌≡◌, sym, ap, ◌∙◌}
-use Prim.Native.Nat.{◌+◌, ◌-◌, ◌*◌}
+use Prim.Native.Nat.{◌+◌, ◌*◌}
 use native.Mathlib.Nat.{zero-add}
 use native.Mathlib.Omega.{arith}
 use lib.IntN.{ℤ, pos}
-use lib.ListN.{length, get_or}
-use Rattle.lists.proofs.Writing.{Filling, filling_start, filling_next, filling_done}
+use lib.ListN.{get_or}
+use Rattle.lists.proofs.Writing.{filling_next, filling_done}
 use Rattle.blocks.specs.Symbols.{hard_bit, weight, view}
 use Rattle.blocks.specs.Packed.{packed}
 use Rattle.blocks.proofs.Bytes.{byte_back}

@@ -1,11 +1,8 @@
 -- `encoder::are_bits` meets its contract: the bytes behind place i are all bits exactly if all bytes are. Assumes nothing.
-use borrow.Author.Tests.{le-leb, lt-leb}
-use mathlib.Core.Path.{◌≡◌, refl, sym, ◌∙◌}
+use mathlib.Core.Path.{◌≡◌}
 use Prim.Native.Nat.{◌-◌}
-use native.Mathlib.Omega.{arith}
 use lib.ListN.{length, drop}
 use Rattle.lists.specs.Lists.{all}
-use Rattle.lists.proofs.Scan.{all_next, all_stop, all_done}
 use Rattle.codes.specs.Encoding.{is_bit}
 use Rattle.codes.proofs.encoder.are_bits.Given as goal
 

@@ -1,5 +1,4 @@
 -- `encoder::encode` meets its contract: each test decides a row of the definition, in its order. Assumes nothing.
-use borrow.Author.Rules.{rules, length_unmapped}
 use borrow.Author.Tests.{le-leb, lt-leb, not-true, not-false}
 use mathlib.Core.Path.{◌≡◌, sym, ap, ◌∙◌}
 use mathlib.Core.Bool.{true}

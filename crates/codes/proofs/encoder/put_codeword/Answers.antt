@@ -1,12 +1,11 @@
 -- `encoder::put_codeword` meets its contract: what is left of the codeword, written over the buffer as it is, finishes it (the record
 -- Writing). Assumes nothing.
-use borrow.Author.Rules.{rules, length_unmapped}
 use borrow.Author.Tests.{leb-true}
 use mathlib.Core.Path.{◌≡◌, refl, sym, ap, ◌∙◌, subst, subst₃}
 use mathlib.Core.List.{List}
-use Prim.Native.Nat.{ℕ, ◌+◌, ◌-◌, ◌/◌, ◌^◌, ◌≤◌, ◌<◌}
+use Prim.Native.Nat.{ℕ, ◌+◌, ◌/◌, ◌^◌, ◌≤◌, ◌<◌}
 use native.Mathlib.Omega.{arith}
-use lib.ListN.{length, get_or, take}
+use lib.ListN.{length, get_or}
 use lib.Pow.{pow_pos}
 use lib.Seq.{sets, length-take-le}
 use Rattle.lists.proofs.Scan.{all_get_d}
@@ -14,7 +13,6 @@ use Rattle.lists.proofs.Tests.{both}
 use Rattle.codes.specs.Limits.{most_memory, shortest_message, longest_message}
 use Rattle.codes.specs.Codes.{from, generators_of, register_of, next_state, branch_outputs, outputs_from, with_tail, codeword, block_length}
 use Rattle.codes.specs.Encoding.{is_bit}
-use Rattle.codes.specs.declared.register.Register.{Register}
 use Rattle.codes.proofs.Codewords.{Writing, writing_start, writing_next, writing_done, branch_fits}
 use Rattle.codes.proofs.Codewords.{with_tail_at, length_with_tail, length_codeword}
 use Rattle.codes.proofs.Rules.{Bounds, lawful_out, from_out}
@@ -61,8 +59,7 @@ put_branch-requires c =
     let memory : c.start-register.result.memory ≡ c.args.code.memory = c.start-register.ensures.0 in
     let bits : List ℕ = with_tail c.start-register.result.memory c.args.message.now in
     let more : c.loop-i.i < length bits = omega (arith, length_with_tail c.start-register.result.memory c.args.message.now, memory, c.loop-i-test.true) in
-    let fits : c.loop-i.at + c.args.code.outputs ≤ length c.loop-i.out = omega (arith, counted, branch_fits generators _ bits _ _ _ c.loop-i.at c.loop-i.i c.loop-i.invariant.writing more) in
-    (
+    let fits : c.loop-i.at + c.args.code.outputs ≤ length c.loop-i.out = omega (arith, counted, branch_fits generators _ bits _ _ _ c.loop-i.at c.loop-i.i c.loop-i.invariant.writing more) in (
       bounds.outputs_most,
       fits,
     )

@@ -2,10 +2,8 @@
 -- measure is what is left of the register. Assumes nothing.
 use mathlib.Core.Path.{◌≡◌}
 use Prim.Native.Nat.{◌+◌, ◌%◌, ◌≤◌}
-use native.Mathlib.Omega.{arith}
 use lib.Bits.{bit_and}
 use lib.Count.{ones}
-use Rattle.codes.proofs.Registers.{pair_small, shared_step, shared_none}
 use Rattle.codes.proofs.register.output_bit.Given as goal
 
 abbrev pub invariant-loop-left : goal.invariant-loop-left

@@ -1,11 +1,9 @@
 -- `table::generators_within` meets its contract: the generators behind place i are all within exactly if all are. Assumes nothing.
 use borrow.Author.Tests.{le-leb, lt-leb}
-use mathlib.Core.Path.{◌≡◌, refl, sym, ◌∙◌}
-use mathlib.Core.List.{List}
+use mathlib.Core.Path.{◌≡◌, sym, ◌∙◌}
 use mathlib.Core.Bool.{false}
-use Prim.Native.Nat.{ℕ, ◌-◌, ◌≤◌}
 use native.Mathlib.Omega.{arith}
-use lib.ListN.{length, get_or, take, drop}
+use lib.ListN.{length, get_or, take}
 use lib.Seq.{length-take-le, get_or-take}
 use Rattle.lists.specs.Lists.{all}
 use Rattle.lists.proofs.Scan.{all_next, all_stop, all_done}

@@ -1,5 +1,4 @@
 -- `table::house` meets its contract: the table of src/ is the table of specs/, and behind it stands the code of zeros. Assumes nothing.
-use borrow.Author.Rules.{rules}
 use mathlib.Core.Path.{sym}
 use lib.ListN.{get_or-eq_default}
 use Rattle.lists.proofs.Places.{get_or_within}

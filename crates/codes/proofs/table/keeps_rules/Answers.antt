@@ -1,10 +1,9 @@
 -- `table::keeps_rules` meets its contract: each test is a part of the rule, in its order. Assumes nothing.
-use borrow.Author.Rules.{rules}
 use borrow.Author.Tests.{le-leb, lt-leb}
 use mathlib.Core.Path.{◌≡◌, ◌∙◌}
 use Prim.Native.Nat.{ℕ, ◌+◌, ◌*◌, ◌%◌, ◌^◌, ◌≤◌}
 use native.Mathlib.Omega.{arith}
-use lib.Pow.{pow-add, pow_pos, shl_exact}
+use lib.Pow.{pow-add, shl_exact}
 use Rattle.codes.specs.Limits.{most_memory}
 use Rattle.codes.specs.Codes.{lawful}
 use Rattle.codes.proofs.table.keeps_rules.Goals as goal

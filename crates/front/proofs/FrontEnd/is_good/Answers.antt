@@ -1,6 +1,5 @@
 -- `front::FrontEnd::is_good` meets its contract, case by case, by what `is_finite` and `is_good_gain` ensure. Assumes nothing.
 use mathlib.Core.Path.{sym, ◌∙◌}
-use borrow.Author.Rules.{rules}
 use Rattle.front.specs.Symbols.{good}
 use Rattle.front.proofs.FrontEnd.is_good.Goals as goal
 

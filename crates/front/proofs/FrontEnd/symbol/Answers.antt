@@ -1,6 +1,5 @@
 -- `front::FrontEnd::symbol` meets its contract, case by case: no product is a NaN (proofs/Numbers.antt), so its bits are there to be
 -- rounded. Assumes nothing.
-use borrow.Author.Rules.{rules}
 use lib.Dec.{T}
 use lib.Ieee as Ieee
 use lib.Ieee.{binary32}

@@ -1,8 +1,6 @@
 -- `search::decoder::decode` meets its contract: a refusal is settled; else the trace of the answer writes the verdict's message.
 -- Assumes nothing.
-use borrow.Author.Rules.{rules}
-use mathlib.Core.Path.{refl, sym, ◌∙◌}
-use native.Mathlib.Omega.{arith}
+use mathlib.Core.Path.{sym, ◌∙◌}
 use lib.ListN.{length}
 use Rattle.blocks.specs.Symbols.{view}
 use Rattle.blocks.specs.Blocks.{trellis_of}
@@ -11,7 +9,6 @@ use Rattle.search.specs.Settling.{Answer}
 use Rattle.search.proofs.Decodings.{decoding_verdict}
 use Rattle.search.proofs.Sizes.{Fit, sizes_fit_out}
 use Rattle.search.proofs.Halting.{answer_traceable, answer_told}
-use Rattle.search.proofs.Refusals.{refused_tag}
 use Rattle.search.proofs.decoder.decode.Goals as goal
 
 pub trace-requires : goal.trace-requires

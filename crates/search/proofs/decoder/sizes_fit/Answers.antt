@@ -1,10 +1,6 @@
 -- `search::decoder::sizes_fit` meets its contract: each test is one of the definition's, in its order. Assumes nothing.
 use native.Mathlib.Omega.{arith}
-use borrow.Author.Rules.{rules}
-use borrow.Author.Tests.{le-leb, lt-leb, eq-eqb, ne_eqb}
-use Rattle.codes.specs.Limits.{shortest_message, longest_message}
 use Rattle.blocks.proofs.Weights.{block_short}
-use Rattle.search.specs.Limits.{largest_room}
 use Rattle.search.proofs.decoder.sizes_fit.Goals as goal
 
 pub overflow_mul-code : goal.overflow_mul-code

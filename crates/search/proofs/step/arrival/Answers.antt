@@ -1,5 +1,4 @@
 -- `step::arrival` meets its contract: the branch of a fitting node can be priced, and what it brings fits a row. Assumes nothing.
-use borrow.Author.Rules.{rules}
 use mathlib.Core.Bool.{false}
 use Prim.Native.Nat.{◌+◌}
 use native.Mathlib.Numerals.{add-one}
@@ -13,12 +12,11 @@ pub price-requires : goal.price-requires
 price-requires c = fitting_priceable c.requires.fact_1 c.requires.fact_2.fitting c.requires.fact_2.allows
 
 pub next-state-requires : goal.next-state-requires
-next-state-requires c =
-    (
-      (lawful_out c.args.code c.requires.fact_1.sized.code).memory_most,
-      c.requires.fact_2.fitting.state,
-      (fitting_priceable c.requires.fact_1 c.requires.fact_2.fitting c.requires.fact_2.allows).input_bit,
-    )
+next-state-requires c = (
+  (lawful_out c.args.code c.requires.fact_1.sized.code).memory_most,
+  c.requires.fact_2.fitting.state,
+  (fitting_priceable c.requires.fact_1 c.requires.fact_2.fitting c.requires.fact_2.allows).input_bit,
+)
 
 pub returns : goal.returns
 returns c =

@@ -1,18 +1,17 @@
 -- `step::expand` meets its contract: the row is closed, and going on from the rows as they are finishes its fan. Assumes nothing.
-use borrow.Author.Rules.{rules}
 use mathlib.Core.Path.{◌≡◌, refl, sym, ap, ◌∙◌, subst}
 use mathlib.Core.List.{List}
-use Prim.Native.Nat.{ℕ, ◌-◌, ◌<◌}
+use Prim.Native.Nat.{ℕ, ◌<◌}
 use native.Mathlib.Omega.{arith}
 use lib.ListN.{length}
 use Rattle.trellis.specs.Trellis.{Trellis, allowed}
-use Rattle.trellis.specs.Search.{Row, row_at, node_at, Tried, shut, closed, relax, fan, expand}
+use Rattle.trellis.specs.Search.{Row, row_at, node_at, Tried, shut, closed, fan, expand}
 use Rattle.trellis.proofs.Rows.{set_changed}
 use Rattle.trellis.proofs.Safe.{safe_closed}
 use Rattle.store.specs.Memory.{rows_of}
 use Rattle.store.proofs.Rows.{length_rows_of}
 use Rattle.blocks.specs.Packed.{seen_in}
-use Rattle.search.specs.Work.{cap, trellis_in, Roomy, Tries}
+use Rattle.search.specs.Work.{cap, trellis_in, Tries}
 use Rattle.search.specs.declared.step.Tally.{Tally}
 use Rattle.search.proofs.Fits.{lent_on, tries_roomy}
 use Rattle.search.proofs.Fans.{Fanning, fanning_cast, fanning_start, fanning_full, fanning_next, fanning_done}
@@ -46,11 +45,11 @@ loop-input-init c =
 pub relax-tally-requires-clause-steppable : goal.relax-tally-requires-clause-steppable
 relax-tally-requires-clause-steppable c =
     let f = c.loop-input.invariant.fanning in record {
-        searchable = c.requires.fact_1.searchable;
-        roomy = c.loop-input.invariant.roomy;
-        within = omega (arith, f.there, length_rows_of c.loop-input.work c.loop-input.rows);
-        safe = f.safe;
-      }
+      searchable = c.requires.fact_1.searchable;
+      roomy = c.loop-input.invariant.roomy;
+      within = omega (arith, f.there, length_rows_of c.loop-input.work c.loop-input.rows);
+      safe = f.safe;
+    }
 
 pub returns-then-tally : goal.returns-then-tally
 unfolding expand

@@ -1,5 +1,4 @@
 -- `step::relax` meets its contract: what the row brings is the pure search's arrival, entered. Assumes nothing.
-use borrow.Author.Rules.{rules}
 use mathlib.Core.Path.{◌≡◌, sym, ap, ◌∙◌, subst}
 use mathlib.Core.List.{List}
 use Prim.Native.Nat.{ℕ, ◌<◌}
@@ -28,11 +27,11 @@ arrival-brought-requires-clause-fact_2 c =
     let inside : c.args.i < length rows = omega (arith, length_rows_of c.args.work.now c.args.n, p.within) in
     let f : Fitting c.args.code c.args.bits (row_at rows c.args.i).entry = safe_fitting p.searchable (p.safe.each c.args.i inside) in
     let e : row_at rows c.args.i ≡ row_of c.row-from.result = sym c.row-from.ensures.0 in record {
-        fitting = subst (λ (r : Row). Fitting c.args.code c.args.bits r.entry) e f;
-        small = c.row-from.ensures.1;
-        within = omega (arith, p.roomy.most, p.roomy.lent.small, p.within);
-        allows = subst (λ (r : Row). c.args.input < allowed t r.entry.node.level) e c.requires.input_bound;
-      }
+      fitting = subst (λ (r : Row). Fitting c.args.code c.args.bits r.entry) e f;
+      small = c.row-from.ensures.1;
+      within = omega (arith, p.roomy.most, p.roomy.lent.small, p.within);
+      allows = subst (λ (r : Row). c.args.input < allowed t r.entry.node.level) e c.requires.input_bound;
+    }
 
 pub returns : goal.returns
 unfolding relax

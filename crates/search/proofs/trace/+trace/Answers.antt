@@ -1,7 +1,7 @@
 -- `search::trace::trace` meets its contract: what a call writes below a level's place stands in front of it (Tracing). Assumes nothing.
 use mathlib.Core.Path.{◌∙◌}
 use mathlib.Core.List.{List}
-use Prim.Native.Nat.{ℕ, ◌<◌}
+use Prim.Native.Nat.{◌<◌}
 use native.Mathlib.Omega.{arith}
 use Rattle.trellis.specs.Search.{Row}
 use Rattle.store.specs.Memory.{row_of, rows_of}
@@ -29,7 +29,7 @@ trace-requires t c =
     let r = c.row-here.ensures.0 in
     let put : Put rows s.level s.i s.bits (row_of c.row-here.result) s.message.now c.if-below-bits.message =
     elim c.if-below-bits.branch [
-      then-below-bits w ↦ put_message rows s.level s.i s.bits r above w.if-below-bits.true c.requires.1.1 w.message-is
+      | then-below-bits w ↦ put_message rows s.level s.i s.bits r above w.if-below-bits.true c.requires.1.1 w.message-is
       | else-below-bits w ↦ put_tail rows s.level s.i s.bits r above w.if-below-bits.false w.message-is
     ] in
     let next = traceable_next rows s.level s.i r (omega arith) c.requires.1.0 in
@@ -43,7 +43,7 @@ returns t c =
     let r = c.row-here.ensures.0 in
     let put : Put rows s.level s.i s.bits (row_of c.row-here.result) s.message.now c.if-below-bits.message =
     elim c.if-below-bits.branch [
-      then-below-bits w ↦ put_message rows s.level s.i s.bits r above w.if-below-bits.true c.requires.1.1 w.message-is
+      | then-below-bits w ↦ put_message rows s.level s.i s.bits r above w.if-below-bits.true c.requires.1.1 w.message-is
       | else-below-bits w ↦ put_tail rows s.level s.i s.bits r above w.if-below-bits.false w.message-is
     ] in
     c.trace.ensures ∙ put.rest

@@ -1,5 +1,4 @@
 -- `bytes::four_bytes` meets its contract: two numbers of two bytes. Assumes nothing.
-use borrow.Author.Rules.{rules}
 use native.Mathlib.Omega.{arith}
 use Rattle.sheets.proofs.Numbers.{number_halves}
 use Rattle.sheets.proofs.bytes.four_bytes.Goals as goal

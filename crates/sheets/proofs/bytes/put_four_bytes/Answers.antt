@@ -1,5 +1,4 @@
 -- `bytes::put_four_bytes` meets its contract: two numbers of two bytes. Assumes nothing.
-use borrow.Author.Rules.{rules}
 use mathlib.Core.Path.{sym, ap, ◌∙◌}
 use mathlib.Core.List.{List}
 use Prim.Native.Nat.{ℕ, ◌+◌, ◌/◌, ◌%◌}

@@ -1,10 +1,9 @@
 -- `bytes::put_two_bytes` meets its contract: the lower byte first. Assumes nothing.
-use borrow.Author.Rules.{rules}
 use mathlib.Core.Path.{◌≡◌, ap₂}
 use Prim.Native.Nat.{ℕ, ◌/◌, ◌%◌}
 use native.Mathlib.Numerals.{add-one}
 use native.Mathlib.Omega.{arith}
-use lib.ListN.{set, length-set}
+use lib.ListN.{set}
 use Rattle.sheets.specs.Bytes.{bytes_of}
 use Rattle.sheets.proofs.bytes.put_two_bytes.Goals as goal
 

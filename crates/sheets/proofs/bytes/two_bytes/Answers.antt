@@ -1,6 +1,4 @@
 -- `bytes::two_bytes` meets its contract: two bytes, the lower first. Assumes nothing.
-use borrow.Author.Rules.{rules}
-use Prim.Native.Nat.{◌+◌}
 use native.Mathlib.Numerals.{add-one}
 use native.Mathlib.Omega.{arith}
 use Rattle.sheets.specs.Bytes.{number_at}

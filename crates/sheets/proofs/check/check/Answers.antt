@@ -1,5 +1,4 @@
 -- `check::check` meets its contract: each test decides a row of the definition, in its order. Assumes nothing.
-use borrow.Author.Rules.{rules}
 use borrow.Author.Tests.{not-true, not-false}
 use mathlib.Core.Path.{◌≡◌, sym, ap, ap₂, ◌∙◌}
 use mathlib.Core.Bool.{true}
@@ -14,7 +13,6 @@ use Rattle.blocks.specs.Symbols.{view}
 use Rattle.blocks.specs.Blocks.{trellis_of}
 use Rattle.sheets.specs.Bytes.{bit_at, sheet_read}
 use Rattle.sheets.specs.Checking.{framed, formed, carried, handed, told, sizes_fit}
-use Rattle.sheets.specs.Steps.{Askable}
 use Rattle.sheets.proofs.Series.{length_series}
 use Rattle.sheets.proofs.Frame.{Framed, framed_test}
 use Rattle.sheets.proofs.Rows.{Sizes, sizes_test, formed_out, checking_code, checking_size, checking_form, checking_claim, checking_accepted}

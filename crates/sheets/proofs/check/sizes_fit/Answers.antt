@@ -1,6 +1,4 @@
 -- `check::sizes_fit` meets its contract: each test is a part of the definition, in its order. Assumes nothing.
-use borrow.Author.Rules.{rules}
-use borrow.Author.Tests.{le-leb, lt-leb, eq-eqb, ne_eqb}
 use Prim.Native.Nat.{◌+◌}
 use native.Mathlib.Nat.{mul-le-mul_right}
 use native.Mathlib.Omega.{arith}

@@ -1,11 +1,11 @@
 -- `check::take_message` meets its contract: writing the bits that are left over the buffer as it is gives the whole message.
 -- Assumes nothing.
-use mathlib.Core.Path.{◌≡◌, refl, sym, ap, ◌∙◌}
+use mathlib.Core.Path.{◌≡◌, sym, ap, ◌∙◌}
 use mathlib.Core.List.{List}
-use Prim.Native.Nat.{ℕ, ◌-◌}
+use Prim.Native.Nat.{ℕ}
 use native.Mathlib.Numerals.{add-one}
 use native.Mathlib.Omega.{arith}
-use lib.ListN.{length, get_or, drop, length-set, drop_of_length-le}
+use lib.ListN.{length, get_or, length-set, drop_of_length-le}
 use lib.Seq.{sets, drop-cons}
 use Rattle.sheets.specs.Bytes.{bit_at, sheet_read}
 use Rattle.sheets.proofs.Series.{length_series, get_or_series}

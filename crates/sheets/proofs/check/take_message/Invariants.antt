@@ -1,14 +1,11 @@
 -- `check::take_message` meets its contract: writing the bits that are left over the buffer as it is gives the whole message.
 -- Assumes nothing.
-use mathlib.Core.Path.{◌≡◌, refl, sym, ap, ◌∙◌}
+use mathlib.Core.Path.{◌≡◌}
 use mathlib.Core.List.{List}
 use Prim.Native.Nat.{ℕ, ◌-◌}
-use native.Mathlib.Numerals.{add-one}
-use native.Mathlib.Omega.{arith}
-use lib.ListN.{length, get_or, drop, length-set, drop_of_length-le}
-use lib.Seq.{sets, drop-cons}
-use Rattle.sheets.specs.Bytes.{bit_at, sheet_read}
-use Rattle.sheets.proofs.Series.{length_series, get_or_series}
+use lib.ListN.{length, drop}
+use lib.Seq.{sets}
+use Rattle.sheets.specs.Bytes.{sheet_read}
 use Rattle.sheets.proofs.check.take_message.Given as goal
 
 -- the bits before i are taken

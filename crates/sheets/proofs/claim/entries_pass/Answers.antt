@@ -1,11 +1,10 @@
 -- `claim::entries_pass` meets its contract: the entries from place i on pass exactly if all do. Assumes nothing.
 use borrow.Author.Tests.{not-true, not-false}
-use mathlib.Core.Path.{◌≡◌, refl, sym, ap, ◌∙◌}
+use mathlib.Core.Path.{◌≡◌, sym, ap, ◌∙◌}
 use mathlib.Core.Bool.{Bool}
-use Prim.Native.Nat.{◌-◌, ◌<◌}
+use Prim.Native.Nat.{◌<◌}
 use native.Mathlib.Omega.{arith}
-use lib.ListN.{length, get_or, drop}
-use Rattle.lists.specs.Lists.{all}
+use lib.ListN.{length, get_or}
 use Rattle.lists.proofs.Scan.{all_next, all_stop, all_done}
 use Rattle.trellis.specs.Verdict.{Entry}
 use Rattle.blocks.specs.Blocks.{trellis_of}

@@ -1,9 +1,8 @@
 -- `claim::holds` meets its contract: the path is walked, and the tests are the conditions. Assumes nothing.
-use borrow.Author.Rules.{rules}
 use mathlib.Core.Path.{◌≡◌, sym, ap, ◌∙◌}
 use Prim.Native.Nat.{◌+◌, ◌<◌}
 use native.Mathlib.Omega.{arith}
-use lib.ListN.{length, drop}
+use lib.ListN.{drop}
 use Rattle.lists.specs.Lists.{all}
 use Rattle.lists.proofs.Tests.{true_in}
 use Rattle.codes.proofs.Rules.{lawful_out}

@@ -1,12 +1,10 @@
 -- `entries::find` meets its contract: the keys before `low` are smaller and those from `high` on are greater. Assumes nothing.
 use mathlib.Core.Path.{◌≡◌, sym, ◌∙◌, subst}
 use mathlib.Core.List.{List}
-use Prim.Native.Nat.{ℕ, ◌+◌, ◌-◌, ◌*◌, ◌/◌, ◌≤◌, ◌<◌}
+use Prim.Native.Nat.{ℕ, ◌+◌, ◌-◌, ◌/◌, ◌≤◌, ◌<◌}
 use native.Mathlib.Decide.{dec_lt}
 use native.Mathlib.Omega.{arith}
 use lib.ListN.{length}
-use Rattle.sheets.specs.Bytes.{entry_at}
-use Rattle.sheets.specs.Steps.{key_of}
 use Rattle.sheets.proofs.Listing.{keys_rise}
 use Rattle.sheets.proofs.entries.find.Invariants.{key_at}
 use Rattle.sheets.proofs.entries.find.Goals as goal

@@ -1,14 +1,13 @@
 -- `entries::inside` meets its contract: the entries from place i on are inside exactly if all are. Assumes nothing.
 use borrow.Author.Tests.{le-leb, lt-leb, lt-ltb, le-ltb}
-use mathlib.Core.Path.{◌≡◌, refl, sym, ◌∙◌}
-use mathlib.Core.Bool.{Bool, true, false, ◌&&◌}
-use Prim.Native.Nat.{ℕ, ◌-◌, ◌*◌, ◌<◌}
+use mathlib.Core.Path.{◌≡◌, sym, ◌∙◌}
+use mathlib.Core.Bool.{true, false}
+use Prim.Native.Nat.{◌*◌, ◌<◌}
 use native.Mathlib.Omega.{arith}
-use lib.Dec.{leb, ltb}
-use lib.ListN.{length, get_or, drop}
+use lib.Dec.{leb}
+use lib.ListN.{length, get_or}
 use Rattle.lists.specs.Lists.{all}
 use Rattle.lists.proofs.Scan.{all_next, all_stop, all_done}
-use Rattle.trellis.specs.Verdict.{Entry}
 use Rattle.sheets.specs.Bytes.{entry_at}
 use Rattle.sheets.specs.Steps.{entries_in}
 use Rattle.trellis.proofs.Listing.{no_entry}

@@ -1,18 +1,12 @@
 -- `entries::inside` meets its contract: the entries from place i on are inside exactly if all are. Assumes nothing.
-use borrow.Author.Tests.{le-leb, lt-leb, lt-ltb, le-ltb}
-use mathlib.Core.Path.{◌≡◌, refl, sym, ◌∙◌}
-use mathlib.Core.Bool.{Bool, true, false, ◌&&◌}
-use Prim.Native.Nat.{ℕ, ◌-◌, ◌*◌, ◌<◌}
-use native.Mathlib.Omega.{arith}
+use mathlib.Core.Path.{◌≡◌}
+use mathlib.Core.Bool.{Bool, ◌&&◌}
+use Prim.Native.Nat.{ℕ, ◌-◌}
 use lib.Dec.{leb, ltb}
-use lib.ListN.{length, get_or, drop}
+use lib.ListN.{drop}
 use Rattle.lists.specs.Lists.{all}
-use Rattle.lists.proofs.Scan.{all_next, all_stop, all_done}
 use Rattle.trellis.specs.Verdict.{Entry}
-use Rattle.sheets.specs.Bytes.{entry_at}
 use Rattle.sheets.specs.Steps.{entries_in}
-use Rattle.trellis.proofs.Listing.{no_entry}
-use Rattle.sheets.proofs.Listing.{length_entries_in, entries_in_at}
 use Rattle.sheets.proofs.entries.inside.Given as goal
 
 -- what is asked of an entry

@@ -1,5 +1,4 @@
 -- `entries::listed` meets its contract: keys tell nodes apart, so the entry that was found is the node's. Assumes nothing.
-use borrow.Author.Rules.{rules}
 use mathlib.Core.Path.{◌≡◌, sym, ap, ◌∙◌}
 use mathlib.Core.List.{List}
 use Prim.Native.Nat.{ℕ, ◌*◌, ◌<◌}

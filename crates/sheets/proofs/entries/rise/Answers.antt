@@ -1,15 +1,12 @@
 -- `entries::rise` meets its contract: the entries from place i on rise exactly if all do. Assumes nothing.
-use mathlib.Core.Path.{◌≡◌, refl, sym, ◌∙◌}
-use mathlib.Core.List.{List}
-use Prim.Native.Nat.{ℕ, suc, ◌+◌, ◌-◌, ◌*◌, ◌≤◌, ◌<◌}
+use mathlib.Core.Path.{sym, ◌∙◌}
+use Prim.Native.Nat.{suc, ◌+◌, ◌*◌, ◌<◌}
 use native.Mathlib.Numerals.{add-one}
 use native.Mathlib.Omega.{arith}
-use lib.ListN.{get_or, drop}
+use lib.ListN.{get_or}
 use Rattle.lists.proofs.Decides.{Decides, decided_yes, decided_no}
-use Rattle.trellis.specs.Verdict.{Entry}
 use Rattle.trellis.proofs.Honest.{lower}
 use Rattle.sheets.specs.Bytes.{entry_at}
-use Rattle.sheets.specs.Checking.{rising}
 use Rattle.sheets.specs.Steps.{entries_in, key_of}
 use Rattle.trellis.proofs.Listing.{no_entry}
 use Rattle.sheets.proofs.Listing.{length_entries_in, neighbours_test, rising_next, rising_stop, rising_done}

@@ -1,11 +1,10 @@
 -- `form::framed` meets its contract: each test is a part of the frame. Assumes nothing.
-use borrow.Author.Rules.{rules}
 use mathlib.Core.Path.{◌≡◌, sym, ap, ap₂, ◌∙◌}
 use Prim.Native.Nat.{ℕ, ◌+◌, ◌-◌, ◌*◌, ◌%◌, ◌^◌}
 use native.Mathlib.Omega.{arith}
 use lib.Dec.{eqb}
-use lib.ListN.{length, get_or}
-use lib.Pow.{pow_pos, shl_exact}
+use lib.ListN.{get_or}
+use lib.Pow.{shl_exact}
 use Rattle.lists.proofs.Decides.{Decides, said, equal, agree, decided_no}
 use Rattle.sheets.specs.Bytes.{message_size, message_place, entries_place}
 use Rattle.sheets.specs.Checking.{framed}

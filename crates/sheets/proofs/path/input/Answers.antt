@@ -1,5 +1,4 @@
 -- `path::input` meets its contract: a bit of the message, or what stands behind it. Assumes nothing.
-use borrow.Author.Rules.{rules}
 use mathlib.Core.Path.{sym, ◌∙◌}
 use native.Mathlib.Omega.{arith}
 use Rattle.sheets.specs.Bytes.{bit_at, sheet_read}
@@ -8,11 +7,10 @@ use Rattle.sheets.proofs.path.input.Goals as goal
 
 pub returns-then-level-length : goal.returns-then-level-length
 unfolding sheet_read
-returns-then-level-length c =
-    (
-      c.bit.ensures ∙ sym (get_or_series c.args.length (bit_at c.args.sheet.now) c.args.level 0 c.if-level-length.true),
-      omega (arith, c.bit.ensures),
-    )
+returns-then-level-length c = (
+  c.bit.ensures ∙ sym (get_or_series c.args.length (bit_at c.args.sheet.now) c.args.level 0 c.if-level-length.true),
+  omega (arith, c.bit.ensures),
+)
 
 pub returns-else-level-length : goal.returns-else-level-length
 unfolding sheet_read

@@ -1,14 +1,11 @@
 -- `path::path_listed` meets its contract: the levels from the loop's on are listed exactly if all are. Assumes nothing.
 use borrow.Author.Tests.{eq-eqb, ne_eqb}
-use mathlib.Core.Path.{◌≡◌, refl, sym, ◌∙◌}
-use mathlib.Core.List.{List}
+use mathlib.Core.Path.{◌≡◌, sym, ◌∙◌}
 use mathlib.Core.Bool.{Bool}
-use Prim.Native.Nat.{ℕ, ◌+◌, ◌-◌, ◌<◌}
+use Prim.Native.Nat.{ℕ, ◌+◌, ◌<◌}
 use native.Mathlib.Omega.{arith}
-use lib.ListN.{length, get_or, drop}
-use Rattle.lists.specs.Lists.{all}
+use lib.ListN.{length, get_or}
 use Rattle.lists.proofs.Scan.{all_next, all_stop, all_done}
-use Rattle.sheets.specs.Bytes.{series}
 use Rattle.sheets.specs.Steps.{entries_in, on_path}
 use Rattle.sheets.proofs.Series.{length_series, get_or_series}
 use Rattle.sheets.proofs.path.path_listed.Invariants.{levels}

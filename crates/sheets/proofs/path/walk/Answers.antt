@@ -1,8 +1,7 @@
 -- `path::walk` meets its contract: what is written so far is the path so far (the record Walking). Assumes nothing.
-use borrow.Author.Rules.{rules}
-use mathlib.Core.Path.{◌≡◌, refl, ◌∙◌, subst}
+use mathlib.Core.Path.{refl, ◌∙◌}
 use mathlib.Core.List.{List}
-use Prim.Native.Nat.{ℕ, ◌+◌, ◌-◌, ◌^◌, ◌≤◌, ◌<◌}
+use Prim.Native.Nat.{ℕ, ◌+◌, ◌^◌, ◌<◌}
 use native.Mathlib.Omega.{arith}
 use lib.ListN.{length, length-set}
 use lib.Pow.{pow_pos, pow_mono}
@@ -13,8 +12,7 @@ use Rattle.blocks.specs.Blocks.{trellis_of}
 use Rattle.blocks.specs.Packed.{seen_in, greatest_price}
 use Rattle.blocks.proofs.Prices.{branch_within}
 use Rattle.sheets.specs.Bytes.{sheet_read}
-use Rattle.sheets.specs.Steps.{Walked}
-use Rattle.sheets.proofs.Walks.{Walking, walking_start, walking_next}
+use Rattle.sheets.proofs.Walks.{walking_start, walking_next}
 use Rattle.sheets.proofs.path.walk.Goals as goal
 
 pub loop-level-init : goal.loop-level-init

@@ -1,20 +1,13 @@
 -- `path::walk` meets its contract: what is written so far is the path so far (the record Walking). Assumes nothing.
-use borrow.Author.Rules.{rules}
-use mathlib.Core.Path.{◌≡◌, refl, ◌∙◌, subst}
+use mathlib.Core.Path.{◌≡◌}
 use mathlib.Core.List.{List}
-use Prim.Native.Nat.{ℕ, ◌+◌, ◌-◌, ◌^◌, ◌≤◌, ◌<◌}
-use native.Mathlib.Omega.{arith}
-use lib.ListN.{length, length-set}
-use lib.Pow.{pow_pos, pow_mono}
-use lib.Seq.{get_or-set_same}
-use Rattle.codes.proofs.Rules.{Bounds, lawful_out}
+use Prim.Native.Nat.{ℕ, ◌-◌, ◌^◌, ◌≤◌}
+use lib.ListN.{length}
 use Rattle.trellis.specs.Trellis.{Trellis}
 use Rattle.blocks.specs.Blocks.{trellis_of}
 use Rattle.blocks.specs.Packed.{seen_in, greatest_price}
-use Rattle.blocks.proofs.Prices.{branch_within}
 use Rattle.sheets.specs.Bytes.{sheet_read}
-use Rattle.sheets.specs.Steps.{Walked}
-use Rattle.sheets.proofs.Walks.{Walking, walking_start, walking_next}
+use Rattle.sheets.proofs.Walks.{Walking}
 use Rattle.sheets.proofs.path.walk.Given as goal
 
 -- so many levels are walked

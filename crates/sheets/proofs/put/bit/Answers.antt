@@ -1,9 +1,6 @@
 -- `put::bit` meets its contract: what stands at the place, and behind the end 0. Assumes nothing.
-use borrow.Author.Rules.{rules}
 use borrow.Author.Tests.{leb-true}
-use mathlib.Core.Path.{refl, sym}
-use native.Mathlib.Omega.{arith}
-use lib.ListN.{get_or-eq_default}
+use mathlib.Core.Path.{refl}
 use Rattle.lists.proofs.Scan.{all_get_d}
 use Rattle.codes.specs.Encoding.{is_bit}
 use Rattle.sheets.proofs.put.bit.Goals as goal

@@ -1,5 +1,4 @@
 -- `put::octet` meets its contract: eight bits, the first highest. Assumes nothing.
-use borrow.Author.Rules.{rules}
 use native.Mathlib.Omega.{arith}
 use Rattle.sheets.specs.Bytes.{octet}
 use Rattle.sheets.proofs.put.octet.Goals as goal

@@ -2,11 +2,11 @@
 -- Filling). Assumes nothing.
 use mathlib.Core.Path.{◌≡◌, sym, ◌∙◌}
 use mathlib.Core.List.{List}
-use Prim.Native.Nat.{ℕ, ◌-◌}
+use Prim.Native.Nat.{ℕ}
 use native.Mathlib.Omega.{arith}
 use lib.ListN.{length, get_or}
-use Rattle.lists.proofs.Writing.{Filling, filling_start, filling_next, filling_done}
-use Rattle.sheets.specs.Bytes.{message_size, message_place, octet, message_bytes}
+use Rattle.lists.proofs.Writing.{filling_next, filling_done}
+use Rattle.sheets.specs.Bytes.{message_size, octet, message_bytes}
 use Rattle.sheets.proofs.Series.{length_series, get_or_series}
 use Rattle.sheets.proofs.put.put_message.Goals as goal
 

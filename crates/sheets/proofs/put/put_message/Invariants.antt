@@ -1,13 +1,9 @@
 -- `put::put_message` meets its contract: writing the bytes that are left over the buffer as it is gives the whole message (the record
 -- Filling). Assumes nothing.
-use mathlib.Core.Path.{◌≡◌, sym, ◌∙◌}
-use mathlib.Core.List.{List}
-use Prim.Native.Nat.{ℕ, ◌-◌}
-use native.Mathlib.Omega.{arith}
-use lib.ListN.{length, get_or}
-use Rattle.lists.proofs.Writing.{Filling, filling_start, filling_next, filling_done}
-use Rattle.sheets.specs.Bytes.{message_size, message_place, octet, message_bytes}
-use Rattle.sheets.proofs.Series.{length_series, get_or_series}
+use Prim.Native.Nat.{◌-◌}
+use lib.ListN.{length}
+use Rattle.lists.proofs.Writing.{Filling}
+use Rattle.sheets.specs.Bytes.{message_place, message_bytes}
 use Rattle.sheets.proofs.put.put_message.Given as goal
 
 abbrev pub invariant-loop-j : goal.invariant-loop-j

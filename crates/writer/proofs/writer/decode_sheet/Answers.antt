@@ -1,7 +1,6 @@
 -- `writer::decode_sheet` meets its contract: a refusal of the decode is handed on; else the size is tested, and the message traced and
 -- the sheet put from the rows of the search, the terminal's closed (Answers). Assumes nothing.
-use borrow.Author.Rules.{rules}
-use mathlib.Core.Path.{◌≡◌, refl, sym, ap, ◌∙◌}
+use mathlib.Core.Path.{◌≡◌, refl, ap, ◌∙◌}
 use mathlib.Core.List.{List}
 use Prim.Native.Nat.{ℕ, ◌+◌, ◌≤◌}
 use native.Mathlib.Omega.{arith}
@@ -20,7 +19,6 @@ use Rattle.search.specs.Work.{in_front}
 use Rattle.search.specs.Settling.{Answer, Refused}
 use Rattle.search.proofs.Sizes.{Fit, sizes_fit_out}
 use Rattle.search.proofs.Halting.{answer_traceable}
-use Rattle.search.proofs.Refusals.{refused_tag}
 use Rattle.writer.specs.declared.writer.DecodedSheet.{DecodedSheet}
 use Rattle.writer.specs.Sheeting.{told}
 use Rattle.writer.proofs.Answers.{answer_left, word, length_word, word_all, entries_few}
@@ -109,10 +107,10 @@ put_sheet-requires-clause-bits_value_2 c =
     let l = c.args.length in
     let symbols = c.args.symbols.now in
     let few : c.in-Done.steps + 1 ≤ c.args.room = entries_few code l symbols answer in record {
-          span = omega (arith, front_length, sizes.long);
-          most = omega (arith, sizes.small);
-          room = omega (arith, front_length, c.if-sheet-bytes.false, c.sheet_size-bytes.ensures);
-        }
+      span = omega (arith, front_length, sizes.long);
+      most = omega (arith, sizes.small);
+      room = omega (arith, front_length, c.if-sheet-bytes.false, c.sheet_size-bytes.ensures);
+    }
 
 pub put_sheet-requires-clause-holds_entries : goal.put_sheet-requires-clause-holds_entries
 put_sheet-requires-clause-holds_entries c =
@@ -125,9 +123,9 @@ put_sheet-requires-clause-holds_entries c =
     let l = c.args.length in
     let symbols = c.args.symbols.now in
     let few : c.in-Done.steps + 1 ≤ c.args.room = entries_few code l symbols answer in record {
-          stored = c.close.ensures.stored;
-          listable = shown_listable code l symbols answer c.args.message.now exit c.trace.ensures c.close.ensures.rows;
-        }
+      stored = c.close.ensures.stored;
+      listable = shown_listable code l symbols answer c.args.message.now exit c.trace.ensures c.close.ensures.rows;
+    }
 
 pub returns : goal.returns
 returns c =

@@ -1,5 +1,4 @@
 -- `writer::put_sheet` meets its contract: head, message and entries, one after another. Assumes nothing.
-use borrow.Author.Rules.{rules}
 use mathlib.Core.Path.{◌≡◌, sym, ap, ◌∙◌}
 use mathlib.Core.List.{List, flat_map}
 use Prim.Native.Nat.{ℕ}

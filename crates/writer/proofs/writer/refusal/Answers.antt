@@ -1,5 +1,4 @@
 -- `writer::refusal` meets its contract: case by case as the definition. Assumes nothing.
-use borrow.Author.Rules.{rules}
 use mathlib.Core.Path.{sym, ap}
 use Rattle.writer.specs.Work.{passed}
 use Rattle.writer.proofs.writer.refusal.Goals as goal
