@@ -1,6 +1,6 @@
 /* Plumtassel: a proved sequential decoder for short blocks of a convolutional code.
  *
- * Link with target/staticlib/libplumtassel.a, which `rt staticlib plumtassel` writes. docs/FACE.md has an example, the proved
+ * Link with target/staticlib/libplumtassel.a, which `tools/staticlib plumtassel` writes. docs/FACE.md has an example, the proved
  * statement of each function, and how to build.
  *
  * A message is L bits, one a byte, each 0 or 1. A block is N = outputs * (L + memory) symbols, one a byte, from -128 to 127: below

@@ -1,4 +1,4 @@
-// Where the proved code's archives lie, for the programs that link one: `rt staticlib NAME` writes them there.
+// Where the proved code's archives lie, for the programs that link one: `tools/staticlib NAME` writes them there.
 fn main() {
     let root = std::env::var("CARGO_MANIFEST_DIR").expect("cargo names the crate's folder");
     println!("cargo:rustc-link-search=native={root}/../target/staticlib");

@@ -166,9 +166,9 @@ fn is_finite(number: f32) -> bool
     number < infinity && -infinity < number
 }
 
-// The symbol of a product with these bits, for a program in C or Rust that tries every bit pattern (second/rounding).
-#[unsafe(no_mangle)]
-pub extern "C" fn plumtassel_symbol_of_product(bits: u32) -> i8
+// The symbol of a product with these bits. The crate `front_c` exports it, for a program in C or Rust that tries every bit pattern
+// (second/rounding).
+pub fn plumtassel_symbol_of_product(bits: u32) -> i8
     ensures { result ≡ rounded bits }
 {
     symbol_of_product(bits)

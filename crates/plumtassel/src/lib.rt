@@ -1,5 +1,6 @@
-// The C face: one exported function for each operation, thin. It takes the caller's structs apart, calls the operation and puts the
-// answer together; what it promises is the operation's own definition. include/plumtassel.h declares these functions for C.
+// The C face: one function for each operation, thin. It takes the caller's structs apart, calls the operation and puts the answer
+// together; what it promises is the operation's own definition. The crate `plumtassel_c` exports these functions to C, and
+// include/plumtassel.h declares them there.
 #![tactic(auto)]
 
 ghost use Rattle.std.specs.Prelude.{◌≡◌, ◌≤◌, length as len};
@@ -63,8 +64,7 @@ pub struct Report {
 }
 
 // The house code of a row, from 0 to 3; of any other row the code of zeros, which every operation refuses 1.
-#[unsafe(no_mangle)]
-pub extern "C" fn plumtassel_house(row: usize) -> Code
+pub fn plumtassel_house(row: usize) -> Code
     ensures { result ≡ face_code (house_code row) }
 {
     let code = house(row);
@@ -77,8 +77,7 @@ pub extern "C" fn plumtassel_house(row: usize) -> Code
 }
 
 // Encodes a message of bits, one a byte, with the zero tail.
-#[unsafe(no_mangle)]
-pub extern "C" fn plumtassel_encode(code: Code, message: &[u8], out: &mut [u8]) -> Answer
+pub fn plumtassel_encode(code: Code, message: &[u8], out: &mut [u8]) -> Answer
     ensures { (result, out.new) ≡ encoded (encoding (code_of code) message.now out.old) }
 {
     let answer = encode(opened(code), message, out);
@@ -87,8 +86,7 @@ pub extern "C" fn plumtassel_encode(code: Code, message: &[u8], out: &mut [u8]) 
 
 // Decodes a block: the message that alone has the least metric, or the refusal that node order says. Of the working memory only its size
 // counts.
-#[unsafe(no_mangle)]
-pub extern "C" fn plumtassel_decode(
+pub fn plumtassel_decode(
     code: Code,
     length: usize,
     symbols: &[i8],
@@ -113,8 +111,7 @@ pub extern "C" fn plumtassel_decode(
 }
 
 // The same, and the honest sheet of the answer.
-#[unsafe(no_mangle)]
-pub extern "C" fn plumtassel_decode_sheet(
+pub fn plumtassel_decode_sheet(
     code: Code,
     length: usize,
     symbols: &[i8],
@@ -141,8 +138,7 @@ pub extern "C" fn plumtassel_decode_sheet(
 }
 
 // Checks a sheet for a block: accepted, its message is the only one of least metric.
-#[unsafe(no_mangle)]
-pub extern "C" fn plumtassel_check(
+pub fn plumtassel_check(
     code: Code,
     length: usize,
     symbols: &[i8],
@@ -157,12 +153,7 @@ pub extern "C" fn plumtassel_check(
 }
 
 // A block of readings to symbols, one each, with the report.
-#[unsafe(no_mangle)]
-pub extern "C" fn plumtassel_front(
-    front_end: FrontEnd,
-    readings: &[f32],
-    symbols: &mut [i8],
-) -> Report
+pub fn plumtassel_front(front_end: FrontEnd, readings: &[f32], symbols: &mut [i8]) -> Report
     ensures { (result, symbols.new) ≡ reported (struct_fronting front_end readings.now symbols.old) }
 {
     let answer = front(chosen(front_end), readings, symbols);
