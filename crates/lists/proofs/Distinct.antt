@@ -5,7 +5,7 @@ use mathlib.Core.Bool.{Bool}
 use lib.Dec.{T}
 use Rattle.lists.specs.Lists.{any, distinct}
 use Rattle.lists.proofs.Tests.{test, true_out, false_out}
-use Rattle.lists.proofs.Membership.{◌∈◌, here, further, member-cast, Within, any_in, any_out}
+use Rattle.lists.proofs.Membership.{◌∈◌, here, further, member_cast, Within, any_in, any_out}
 use Rattle.lists.proofs.Unique.{Unique}
 
 module _ {A : Type 0} where
@@ -21,7 +21,7 @@ module _ {A : Type 0} where
 
     -- and back
     pub listed_out : (l : List A) (a : A) → T (any (same a) l) → a ∈ l
-    listed_out l a h = let r = any_out (same a) l h in member-cast (eq.sound a r.which r.passes) r.member
+    listed_out l a h = let r = any_out (same a) l h in member_cast (eq.sound a r.which r.passes) r.member
 
     -- how distinct goes on, where it is known if the first comes again
     distinct_again : (x : A) (l : List A) → T (any (same x) (distinct same l)) → distinct same (x ∷ l) ≡ distinct same l
@@ -38,7 +38,7 @@ module _ {A : Type 0} where
     distinct_in (x ∷ l) a m = go (test (any (same x) (distinct same l))) m (λ k. distinct_in l a k)
       where
         go : Dec (T (any (same x) (distinct same l))) → a ∈ (x ∷ l) → (a ∈ l → a ∈ distinct same l) → a ∈ distinct same (x ∷ l)
-        go (yes h) (here e) ih = rw (distinct_again x l h) (member-cast e (listed_out (distinct same l) x h))
+        go (yes h) (here e) ih = rw (distinct_again x l h) (member_cast e (listed_out (distinct same l) x h))
         go (yes h) (further k) ih = rw (distinct_again x l h) (ih k)
         go (no h) (here e) ih = rw (distinct_new x l h) (here e)
         go (no h) (further k) ih = rw (distinct_new x l h) (further (ih k))

@@ -5,12 +5,12 @@ use Prim.Native.Nat.{ℕ, ◌≤◌, min}
 use native.Mathlib.Decide.{dec_le}
 use native.Mathlib.Omega.{arith}
 use Rattle.lists.specs.Lists.{least}
-use Rattle.lists.proofs.Membership.{◌∈◌, here, further, member-cast}
+use Rattle.lists.proofs.Membership.{◌∈◌, here, further, member_cast}
 
 -- no member is below it
 pub least_le : (l : List ℕ) {a : ℕ} → a ∈ l → least l ≤ a
 unfolding least
-least_le [] {a = a} x' = elim x' [ ]
+least_le [] {a = a} m = elim m [ ]
 least_le (x ∷ []) {a = a} (further m) = elim m [ ]
 least_le (x ∷ []) (here e) = omega arith
 least_le (x ∷ y ∷ l) (here e) = omega arith
@@ -24,7 +24,7 @@ least_cons x (y ∷ l) = go (dec_le x (least (y ∷ l))) (least_cons y l)
   where
     go : Dec (x ≤ least (y ∷ l)) → least (y ∷ l) ∈ (y ∷ l) → min x (least (y ∷ l)) ∈ (x ∷ y ∷ l)
     go (yes h) ih = let e : min x (least (y ∷ l)) ≡ x = omega arith in here e
-    go (no h) ih = let e : min x (least (y ∷ l)) ≡ least (y ∷ l) = omega arith in further (member-cast e ih)
+    go (no h) ih = let e : min x (least (y ∷ l)) ≡ least (y ∷ l) = omega arith in further (member_cast e ih)
 
 -- it is attained
 pub least_of : {l : List ℕ} {a : ℕ} → a ∈ l → least l ∈ l

@@ -6,15 +6,15 @@ use mathlib.Core.Path.{◌≡◌, refl, sym, ap, ◌∙◌, subst}
 use mathlib.Core.Logic.{◌⊎◌, inl, inr}
 use mathlib.Core.List.Memᴰ
 use mathlib.Core.List.{List, [], ◌∷◌, map, flat_map, reverse, reverse_aux, Memᴰ}
-pub use mathlib.Core.List.Memᴰ.{cast as member-cast}
+pub use mathlib.Core.List.Memᴰ.{cast as member_cast}
 pub use mathlib.Core.List.Memᴰ.{head as here}
-pub use mathlib.Core.List.Memᴰ.{not-nil as nil-out}
+pub use mathlib.Core.List.Memᴰ.{not-nil as nil_out}
 pub use mathlib.Core.List.Memᴰ.{tail as further}
-pub use mathlib.Core.List.Memᴰ.{append_cases as append-out}
-pub use mathlib.Core.List.Memᴰ.{eq_of_singleton as singleton-out}
+pub use mathlib.Core.List.Memᴰ.{append_cases as append_out}
+pub use mathlib.Core.List.Memᴰ.{eq_of_singleton as singleton_out}
 pub use mathlib.Core.List.Memᴰ.{append_left}
 pub use mathlib.Core.List.Memᴰ.{append_right}
-pub use mathlib.Core.List.Memᴰ.{map as map-in}
+pub use mathlib.Core.List.Memᴰ.{map as map_in}
 use mathlib.Core.Bool.{Bool}
 use Prim.Native.Nat.{ℕ, zero, suc, ◌≤◌, ◌<◌}
 use native.Mathlib.Nat.{le_of_suc-le-suc, not-suc-le-zero}
@@ -52,21 +52,21 @@ module _ {A : Type 0} where
   -- a list with a member and no more than one is that member alone
   pub only_member : (l : List A) {a : A} → a ∈ l → length l ≤ 1 → l ≡ a ∷ []
   only_member [] {a = a} m h = elim m [ ]
-  only_member (x ∷ []) m h = ap (λ (y : A). y ∷ []) (sym (singleton-out m))
+  only_member (x ∷ []) m h = ap (λ (y : A). y ∷ []) (sym (singleton_out m))
   only_member (x ∷ y ∷ l) m h = absurd (omega arith)
 
   -- ---- take
 
   -- a member of a front is a member
   pub take_out : (n : ℕ) (l : List A) → Within (take n l) l
-  take_out zero l a m = absurd (nil-out m)
+  take_out zero l a m = absurd (nil_out m)
   take_out (suc n) [] a m = m
   take_out (suc n) (x ∷ l) a (here e) = here e
   take_out (suc n) (x ∷ l) a (further m) = further (take_out n l a m)
 
   -- a longer front has all members of a shorter one
   pub take_more : (m n : ℕ) (l : List A) → m ≤ n → Within (take m l) (take n l)
-  take_more zero n l h a m = absurd (nil-out m)
+  take_more zero n l h a m = absurd (nil_out m)
   take_more (suc m) zero l h a k = absurd (not-suc-le-zero h)
   take_more (suc m) (suc n) [] h a k = k
   take_more (suc m) (suc n) (x ∷ l) h a (here e) = here e
@@ -90,7 +90,7 @@ module _ {A : Type 0} where
     where
       go : (a ∈ l) ⊎ (a ∈ []) → a ∈ l
       go (inl k) = k
-      go (inr k) = absurd (nil-out k)
+      go (inr k) = absurd (nil_out k)
 
   module _ (p : A → Bool) where
     -- ---- keep
@@ -113,7 +113,7 @@ module _ {A : Type 0} where
 
     -- the kept members are those that pass
     pub keep_in : {a : A} {l : List A} → a ∈ l → T (p a) → a ∈ keep p l
-    keep_in {a = a} {l = []} x5 h = elim x5 [ ]
+    keep_in {a = a} {l = []} m h = elim m [ ]
     keep_in {l = x ∷ l} (here e) h = rw (keep_yes x l (subst (λ (y : A). T (p y)) e h)) (here e)
     keep_in {a = a} {l = x ∷ l} (further m) h = go (test (p x)) (keep_in m h)
       where
@@ -129,7 +129,7 @@ module _ {A : Type 0} where
     -- to split on a kept member
     pub keep_out : (l : List A) {a : A} → a ∈ keep p l → Kept l a
     unfolding keep
-    keep_out [] m = absurd (nil-out m)
+    keep_out [] m = absurd (nil_out m)
     keep_out (x ∷ l) {a} m = go (test (p x)) (λ k. keep_out l k)
       where
         later : Kept l a → Kept (x ∷ l) a
@@ -154,14 +154,14 @@ module _ {A : Type 0} where
     -- and back
     pub all_out : (l : List A) → T (all p l) → Every (λ a. T (p a)) l
     unfolding all
-    all_out [] h a x'' = elim x'' [ ]
+    all_out [] h a m = elim m [ ]
     all_out (x ∷ l) h a (here e) = subst (λ (y : A). T (p y)) (sym e) (and_out (p x) (all p l) h).0
     all_out (x ∷ l) h a (further m) = all_out l (and_out (p x) (all p l) h).1 a m
 
     -- any: some member passes
     pub any_in : {a : A} {l : List A} → a ∈ l → T (p a) → T (any p l)
     unfolding any
-    any_in {a = a} {l = []} x5 h = elim x5 [ ]
+    any_in {a = a} {l = []} m h = elim m [ ]
     any_in {l = x ∷ l} (here e) h = or_left (p x) (any p l) (subst (λ (y : A). T (p y)) e h)
     any_in {l = x ∷ l} (further m) h = or_right (p x) (any p l) (any_in m h)
 
@@ -203,15 +203,15 @@ module _ {A B : Type 0} where
   -- a member of one of the lists is a member
   pub flat_map_in : (f : A → List B) {a : A} {l : List A} {b : B} → a ∈ l → b ∈ f a → b ∈ flat_map f l
   unfolding flat_map
-  flat_map_in f {a = a} {l = []} {b = b} x5 k = elim x5 [ ]
+  flat_map_in f {a = a} {l = []} {b = b} m k = elim m [ ]
   flat_map_in f {l = x ∷ l} {b = b} (here e) k = append_left (flat_map f l) (subst (λ (y : A). b ∈ f y) e k)
   flat_map_in f {l = x ∷ l} (further m) k = append_right (f x) (flat_map_in f m k)
 
   -- and back
   pub flat_map_out : (f : A → List B) (l : List A) {b : B} → b ∈ flat_map f l → FlatMapped f l b
   unfolding flat_map
-  flat_map_out f [] m = absurd (nil-out m)
-  flat_map_out f (x ∷ l) {b} m = go (append-out (f x) m) (λ k. flat_map_out f l k)
+  flat_map_out f [] m = absurd (nil_out m)
+  flat_map_out f (x ∷ l) {b} m = go (append_out (f x) m) (λ k. flat_map_out f l k)
     where
       go : (b ∈ f x) ⊎ (b ∈ flat_map f l) → (b ∈ flat_map f l → FlatMapped f l b) → FlatMapped f (x ∷ l) b
       go (inl k) ih = record { source = x; member = here refl; inner = k }
@@ -240,6 +240,6 @@ below_in (suc n) {k} h = go (eq_or_lt k n h) (λ l. below_in n l)
 -- and back
 pub below_out : (n : ℕ) {k : ℕ} → k ∈ below n → k < n
 unfolding below
-below_out zero m = absurd (nil-out m)
+below_out zero m = absurd (nil_out m)
 below_out (suc n) (here e) = omega arith
 below_out (suc n) {k} (further m) = let h : k < n = below_out n m in omega arith

@@ -28,7 +28,7 @@ module _ {A : Type 0} (d : A) where
 
   -- to go from a member to its place
   pub place_out : (l : List A) {a : A} → a ∈ l → Place l a
-  place_out [] {a = a} x' = elim x' [ ]
+  place_out [] {a = a} m = elim m [ ]
   place_out (x ∷ l) (here e) = record { index = 0; within = omega arith; equal = sym e }
   place_out (x ∷ l) (further m) = let r = place_out l m in record { index = suc r.index; within = omega (arith, r.within); equal = r.equal }
 

@@ -41,7 +41,7 @@ module _ {A : Type 0} (p : A → Bool) where
   all_within (x ∷ l) d (suc i) h k = all_within l d i (le_of_suc-le-suc h) (all_cons x l k).1
 
   -- for a read at any place: past the end stands a default that passes too
-  pub all_get_d : (l : List A) (d : A) (i : ℕ) → p d ≡ true → all p l ≡ true → p (get_or l i d) ≡ true
-  all_get_d [] d i h k = h
-  all_get_d (x ∷ l) d zero h k = (all_cons x l k).0
-  all_get_d (x ∷ l) d (suc i) h k = all_get_d l d i h (all_cons x l k).1
+  pub all_get_or : (l : List A) (d : A) (i : ℕ) → p d ≡ true → all p l ≡ true → p (get_or l i d) ≡ true
+  all_get_or [] d i h k = h
+  all_get_or (x ∷ l) d zero h k = (all_cons x l k).0
+  all_get_or (x ∷ l) d (suc i) h k = all_get_or l d i h (all_cons x l k).1

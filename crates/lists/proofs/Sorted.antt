@@ -9,7 +9,7 @@ use lib.Dec.{T}
 use lib.ListN.{take}
 use Rattle.lists.specs.Lists.{keep, insert, sort}
 use Rattle.lists.proofs.Tests.{test, true_out, false_out}
-use Rattle.lists.proofs.Membership.{◌∈◌, here, further, nil-out, append_right, Every, Within, every_cons, take_out, keep_yes, keep_none}
+use Rattle.lists.proofs.Membership.{◌∈◌, here, further, nil_out, append_right, Every, Within, every_cons, take_out, keep_yes, keep_none}
 use Rattle.lists.proofs.Unique.{Unique}
 
 module _ {A : Type 0} (less : A → A → Bool) where
@@ -68,7 +68,7 @@ module _ {A : Type 0} (less : A → A → Bool) where
   -- sort keeps the members
   pub sort_in : (l : List A) → Within l (sort less l)
   unfolding sort
-  sort_in [] a x' = elim x' [ ]
+  sort_in [] a m = elim m [ ]
   sort_in (x ∷ l) a (here e) = insert_in x (sort less l) a (here e)
   sort_in (x ∷ l) a (further m) = insert_in x (sort less l) a (further (sort_in l a m))
 
@@ -93,7 +93,7 @@ module _ {A : Type 0} (less : A → A → Bool) where
   -- a member of a sorted list is in the front, or all of the front is before it
   pub take_or_after : (n : ℕ) (l : List A) → Sorted l → (a : A) → a ∈ l → (a ∈ take n l) ⊎ Every (λ x. T (less x a)) (take n l)
   take_or_after (suc n) [] s a m = elim m [ ]
-  take_or_after zero l s a m = inr (λ b k. absurd (nil-out k))
+  take_or_after zero l s a m = inr (λ b k. absurd (nil_out k))
   take_or_after (suc n) (x ∷ l) s a (here e) = inl (here e)
   take_or_after (suc n) (x ∷ l) s a (further m) = go (take_or_after n l s.1 a m)
     where
@@ -103,7 +103,7 @@ module _ {A : Type 0} (less : A → A → Bool) where
 
   -- what stands in front of a member is before it
   pub sorted_append : (p q : List A) (z : A) → Sorted (p ++ z ∷ q) → Every (λ x. T (less x z)) p
-  sorted_append [] q z s y x'' = elim x'' [ ]
+  sorted_append [] q z s y m = elim m [ ]
   sorted_append (x ∷ p) q z s y (here e) = subst (λ (u : A). T (less u z)) (sym e) (s.0 z (append_right p (here refl)))
   sorted_append (x ∷ p) q z s y (further m) = sorted_append p q z s.1 y m
 
@@ -118,7 +118,7 @@ module _ {A : Type 0} (less : A → A → Bool) where
     -- by insertion, where no element comes twice
     pub insert_sorted : (a : A) (l : List A) → (a ∈ l → ⊥) → Sorted l → Sorted (insert less a l)
     unfolding insert
-    insert_sorted a [] new s = (λ b m. absurd (nil-out m), tt)
+    insert_sorted a [] new s = (λ b m. absurd (nil_out m), tt)
     insert_sorted a (x ∷ l) new s = go (test (less a x)) (insert_sorted a l (λ m. new (further m)) s.1)
       where
         late : (T (less a x) → ⊥) → T (less a x) ⊎ ((a ≡ x) ⊎ T (less x a)) → T (less x a)
@@ -145,10 +145,10 @@ module _ {A : Type 0} (less : A → A → Bool) where
 
     -- what stands before one of the first j + 1 is one of the first j
     pub take_before : (j : ℕ) (l : List A) → Sorted l → {e f : A} → e ∈ take (suc j) l → f ∈ l → T (less f e) → f ∈ take j l
-    take_before j [] s m k h = absurd (nil-out k)
+    take_before j [] s m k h = absurd (nil_out k)
     take_before j (x ∷ l) s (here e) (here f) h = absurd (o.irrefl x (rw (f, e) at h))
     take_before j (x ∷ l) s (here e) (further k) h = absurd (o.irrefl x (o.trans x _ x (s.0 _ k) (rw e at h)))
-    take_before zero (x ∷ l) s (further m) k h = absurd (nil-out m)
+    take_before zero (x ∷ l) s (further m) k h = absurd (nil_out m)
     take_before (suc j) (x ∷ l) s (further m) (here f) h = here f
     take_before (suc j) (x ∷ l) s (further m) (further k) h = further (take_before j l s.1 m k h)
 

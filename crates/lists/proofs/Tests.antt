@@ -14,7 +14,7 @@ test false = no (λ h. h)
 pub true_in : (b : Bool) → b ≡ true → T b
 true_in b e = rw e tt
 
--- and back; `rw (true-out b h)` and `rw (false-out b h)` go on with a choice by the test
+-- and back; `rw (true_out b h)` and `rw (false_out b h)` go on with a choice by the test
 pub true_out : (b : Bool) → T b → b ≡ true
 true_out false h = elim h [ ]
 true_out true h = refl

@@ -11,7 +11,7 @@ use lib.Dec.{T}
 use lib.ListN.{length}
 use Rattle.lists.specs.Lists.{keep, below}
 use Rattle.lists.proofs.Tests.{test}
-use Rattle.lists.proofs.Membership.{◌∈◌, here, further, append-out, member-cast, Within, keep_yes, keep_no, keep_out, below_out}
+use Rattle.lists.proofs.Membership.{◌∈◌, here, further, append_out, member_cast, Within, keep_yes, keep_no, keep_out, below_out}
 use Rattle.lists.proofs.Membership.{Mapped, map_out, FlatMapped, flat_map_out}
 
 module _ {A : Type 0} where
@@ -23,7 +23,7 @@ module _ {A : Type 0} where
   -- two lists that share no member
   pub append_unique : (s t : List A) → Unique s → Unique t → ((a : A) → a ∈ s → a ∈ t → ⊥) → Unique (s ++ t)
   append_unique [] t u v apart = v
-  append_unique (x ∷ s) t u v apart = (λ m. go (append-out s m), append_unique s t u.1 v (λ a m k. apart a (further m) k))
+  append_unique (x ∷ s) t u v apart = (λ m. go (append_out s m), append_unique s t u.1 v (λ a m k. apart a (further m) k))
     where
       go : (x ∈ s) ⊎ (x ∈ t) → ⊥
       go (inl m) = u.0 m
@@ -43,7 +43,7 @@ module _ {A : Type 0} where
 
   -- the list without the member that m points at
   without : {a : A} (l : List A) → a ∈ l → List A
-  without {a = a} [] x' = elim x' [ ]
+  without {a = a} [] m = elim m [ ]
   without (x ∷ xs) (here e) = xs
   without (x ∷ xs) (further m) = x ∷ without xs m
 
@@ -69,7 +69,7 @@ module _ {A : Type 0} where
   length_within (x ∷ s) t u w =
       let m : x ∈ t = w x (here refl) in
       let ih : length s ≤ length (without t m) =
-      length_within s (without t m) u.1 (λ a k. without_in t m (λ e. u.0 (member-cast (sym e) k)) (w a (further k))) in
+      length_within s (without t m) u.1 (λ a k. without_in t m (λ e. u.0 (member_cast (sym e) k)) (w a (further k))) in
       omega (arith, length_without t m)
 
   -- to count by members alone
@@ -83,7 +83,7 @@ module _ {A B : Type 0} where
   map_unique f (x ∷ l) inj u = (λ m. go (map_out f l m), map_unique f l (λ a b m n. inj a b (further m) (further n)) u.1)
     where
       go : Mapped f l (f x) → ⊥
-      go r = u.0 (member-cast (inj x r.source (here refl) (further r.member) r.equal) r.member)
+      go r = u.0 (member_cast (inj x r.source (here refl) (further r.member) r.equal) r.member)
 
   -- the lists are without repeats, and no two of them share a member
   pub flat_map_unique : (f : A → List B) (l : List A) → ((a : A) → Unique (f a)) → ((a b : A) (c : B) → c ∈ f a → c ∈ f b → a ≡ b) → Unique l
@@ -94,7 +94,7 @@ module _ {A B : Type 0} where
       append_unique (f x) (flat_map f l) (each x) (flat_map_unique f l each apart u.1) (λ c m n. go c m (flat_map_out f l n))
     where
       go : (c : B) → c ∈ f x → FlatMapped f l c → ⊥
-      go c m r = u.0 (member-cast (apart x r.source c m r.inner) r.member)
+      go c m r = u.0 (member_cast (apart x r.source c m r.inner) r.member)
 
 -- the numbers below n
 pub below_unique : (n : ℕ) → Unique (below n)

@@ -4,7 +4,7 @@ use mathlib.Core.Path.{◌≡◌}
 use mathlib.Core.List.{List, ◌∷◌, map, flat_map}
 use Prim.Native.Nat.{ℕ, ◌<◌}
 use Rattle.lists.specs.Lists.{below}
-use Rattle.lists.proofs.Membership.{◌∈◌, map-in, map_out, flat_map_in, flat_map_out, below_in, below_out}
+use Rattle.lists.proofs.Membership.{◌∈◌, map_in, map_out, flat_map_in, flat_map_out, below_in, below_out}
 use Rattle.lists.proofs.Unique.{Unique, map_unique, flat_map_unique, below_unique}
 
 -- every list of ps, each number below n put before it
@@ -21,7 +21,7 @@ pub record Grown (n : ℕ) (ps : List (List ℕ)) (q : List ℕ) : Type 0 where
 
 -- the members are the lists with one number more
 pub grown_in : (n : ℕ) {ps : List (List ℕ)} {b : ℕ} {p : List ℕ} → b < n → p ∈ ps → (b ∷ p) ∈ grown n ps
-grown_in n {p = p} h m = flat_map_in (λ p. map (λ b. b ∷ p) (below n)) m (map-in (λ b. b ∷ p) (below_in n h))
+grown_in n {p = p} h m = flat_map_in (λ p. map (λ b. b ∷ p) (below n)) m (map_in (λ b. b ∷ p) (below_in n h))
 
 -- and no others
 pub grown_out : (n : ℕ) (ps : List (List ℕ)) {q : List ℕ} → q ∈ grown n ps → Grown n ps q

@@ -1,4 +1,4 @@
--- Two results that the contract of an exported function allows for one input are equal: the struct handed back and every byte of every
+-- Two results that the contract of a function of the face allows for one input are equal: the struct handed back and every byte of every
 -- output buffer. Working memory counts by its size alone, so they are equal whatever it held. Assumes nothing.
 use mathlib.Core.Path.{◌≡◌, sym, ap, ◌∙◌}
 use mathlib.Core.List.{List}

@@ -1,5 +1,5 @@
 -- What the inner functions of the face make of each answer: the step between an operation's enum and the caller's struct. Not believed:
--- no exported function's contract cites it. Assumes nothing.
+-- no contract of the face cites it. Assumes nothing.
 use Rattle.std.specs.Prelude.{cond, ℕ, ◌≤◌, eqb}
 use Rattle.codes.specs.declared.encoder.Encoded.{Encoded}
 use Rattle.codes.specs.declared.encoder.Encoded.TheVariants as encoded

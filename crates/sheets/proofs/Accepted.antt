@@ -8,7 +8,7 @@ use native.Mathlib.Omega.{arith}
 use lib.IntN.{ℤ}
 use lib.ListN.{length, take, drop}
 use lib.Seq.{take_at}
-use Rattle.lists.proofs.Membership.{◌∈◌, nil-out, Every, every_cons}
+use Rattle.lists.proofs.Membership.{◌∈◌, nil_out, Every, every_cons}
 use Rattle.codes.specs.declared.table.Code.{Code}
 use Rattle.codes.specs.Codes.{lawful}
 use Rattle.trellis.specs.Trellis.{Trellis}
@@ -29,7 +29,7 @@ use Rattle.sheets.proofs.Rows.{checking_code, checking_size, checking_form, chec
 -- for the bits: what holds of each f i holds of all
 every_series : {A : Type 0} (P : A → Type 0) (n : ℕ) (f : ℕ → A) → ((i : ℕ) → P (f i)) → Every P (series n f)
 unfolding series
-every_series P zero f h = λ a m. absurd (nil-out m)
+every_series P zero f h = λ a m. absurd (nil_out m)
 every_series P (suc n) f h = every_cons P (h 0) (every_series P n (λ i. f (suc i)) (λ i. h (suc i)))
 
 -- L bits are a message

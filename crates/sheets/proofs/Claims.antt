@@ -120,10 +120,10 @@ module _ (c : Code) (l : ℕ) (block : List Seen) (es : List Entry) (m : ℕ) (w
           let after : get_or states (e.node.level + 1) 0 ≡ ends t (early w (suc i)) = next_place states level ∙ k.walked.states_at (suc i) le in
           let paid : get_or metrics (e.node.level + 1) 0 ≡ metric t (early w (suc i)) = next_place metrics level ∙ k.walked.metrics_at (suc i) le in
           let state : (onto t e b).node.state ≡ ends t (early w (suc i)) = ap (λ (x : Node). x.state) enters in
-          let same-input : e.node.state ≡ ends t (early w i) → b ≡ get_or w i 0 =
+          let same_input : e.node.state ≡ ends t (early w i) → b ≡ get_or w i 0 =
           λ q. next_input c.memory b (get_or w i 0) e.node.state k.memory (input_bit c l block e.node.level b u) (k.bits i)
           (state ∙ ap (λ (x : ℕ). t.next x (get_or w i 0)) (sym q)) in
-          omega (arith, h e member b u (state ∙ sym after) (λ q. apart (q ∙ before, same-input (q ∙ before))))
+          omega (arith, h e member b u (state ∙ sym after) (λ q. apart (q ∙ before, same_input (q ∙ before))))
 
       go : (j : ℕ) → j ≤ l + c.memory → Clear t es (early w j)
       go zero le = tt

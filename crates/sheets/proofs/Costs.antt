@@ -7,7 +7,7 @@ use native.Mathlib.Omega.{arith}
 use lib.Dec.{T, eqb, leb}
 use lib.ListN.{length, get_or}
 use Rattle.lists.proofs.Tests.{test, true_out, false_out}
-use Rattle.lists.proofs.Membership.{◌∈◌, here, further, member-cast}
+use Rattle.lists.proofs.Membership.{◌∈◌, here, further, member_cast}
 use Rattle.lists.proofs.Sorted.{Sorted}
 use Rattle.lists.proofs.Decides.{Decides, said, equal, at_most}
 use Rattle.trellis.specs.Trellis.{Node, same}
@@ -29,7 +29,7 @@ cost_further e es x h = rw (false_out (same e.node x) (λ t. h (same_equality.so
 
 -- an entry's cost is the one that is listed
 pub listed_one : (es : List Entry) → Sorted lower es → {e : Entry} → e ∈ es → listed_cost es e.node ≡ e.cost
-listed_one [] s {e = e} x'' = elim x'' [ ]
+listed_one [] s {e = e} m = elim m [ ]
 listed_one (f ∷ es) s {e} (here h) = cost_here f es e.node (ap (λ (g : Entry). g.node) (sym h)) ∙ ap (λ (g : Entry). g.cost) (sym h)
 listed_one (f ∷ es) s {e} (further m) =
     cost_further f es e.node (λ h. earlier_order.irrefl e.node (subst (λ (x : Node). T (lower (record { cost = 0; node = x }) e)) h (s.0 e m)))
@@ -47,7 +47,7 @@ listed_from (e ∷ es) x h = go (test (same e.node x)) (λ k. listed_from es x k
     go (no n) ih =
         let k : listed_cost (e ∷ es) x ≡ listed_cost es x =
         cost_further e es x (λ q. n (subst (λ (y : Node). T (same e.node y)) q (same_equality.complete e.node))) in
-        member-cast (entry_path k refl) (further (ih (subst (λ (c : ℕ). c < absent) k h)))
+        member_cast (entry_path k refl) (further (ih (subst (λ (c : ℕ). c < absent) k h)))
 
 -- a node that no place holds is not listed
 pub listed_none : (es : List Entry) (d : Entry) (x : Node) → ((i : ℕ) → i < length es → (get_or es i d).node ≡ x → ⊥) → listed_cost es x ≡ absent
@@ -61,7 +61,7 @@ module _ (es : List Entry) (s : Sorted lower es) (x : Node) (c : ℕ) (small : c
   equal_cost = said (equal (listed_cost es x) c) out (λ m. listed_one es s m)
     where
       out : listed_cost es x ≡ c → record { cost = c; node = x } ∈ es
-      out e = member-cast (entry_path (sym e) refl) (listed_from es x (omega arith))
+      out e = member_cast (entry_path (sym e) refl) (listed_from es x (omega arith))
 
   -- for B: listed with a cost of at most this
   pub within_cost : Decides (leb (listed_cost es x) c) (Listed es x c)

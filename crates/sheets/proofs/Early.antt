@@ -8,7 +8,7 @@ use native.Mathlib.Nat.{add-suc, add-zero}
 use native.Mathlib.Omega.{arith}
 use lib.ListN.{length, get_or, replicate, get_or-eq_default}
 use lib.Pow.{pow_mono}
-use Rattle.lists.proofs.Membership.{◌∈◌, here, further, singleton-out, Every, eq_or_lt}
+use Rattle.lists.proofs.Membership.{◌∈◌, here, further, singleton_out, Every, eq_or_lt}
 use Rattle.codes.specs.Codes.{next_state}
 use Rattle.trellis.specs.Trellis.{Trellis, Path, top}
 use Rattle.trellis.specs.Verdict.{path_of}
@@ -56,7 +56,7 @@ parts_early w (suc k) j h = go (eq_or_lt j (suc k) (omega arith)) (λ l. parts_e
 -- to show a fact of every part
 pub every_part : (Q : Path → Type 0) (w : List ℕ) (k : ℕ) → ((j : ℕ) → j ≤ k → Q (early w j)) → Every Q (parts (early w k))
 unfolding early
-every_part Q w zero h p m = subst Q (sym (singleton-out m)) (h 0 (omega arith))
+every_part Q w zero h p m = subst Q (sym (singleton_out m)) (h 0 (omega arith))
 every_part Q w (suc k) h p (here e) = subst Q (sym e) (h (suc k) (omega arith))
 every_part Q w (suc k) h p (further m) = every_part Q w k (λ j l. h j (omega arith)) p m
 

@@ -10,7 +10,7 @@ use lib.Dec.{T}
 use lib.ListN.{length, get_or, take, drop, length-drop}
 use lib.Seq.{drop-cons, take_all}
 use Rattle.lists.proofs.Tests.{true_in}
-use Rattle.lists.proofs.Membership.{here, nil-out, every_cons}
+use Rattle.lists.proofs.Membership.{here, nil_out, every_cons}
 use Rattle.lists.proofs.Lexicographic.{compared}
 use Rattle.lists.proofs.Sorted.{Sorted}
 use Rattle.lists.proofs.Places.{sorted_places}
@@ -64,7 +64,7 @@ earlier_key x y h k = record { out = (λ t. up (earlier_out x y t)); into = (λ 
 pub rising_test : (es : List Entry) → Decides (rising es) (Sorted lower es)
 unfolding rising
 rising_test [] = record { out = (λ h. tt); into = (λ h. tt) }
-rising_test (e ∷ []) = record { out = (λ h. (λ a m. absurd (nil-out m), tt)); into = (λ h. tt) }
+rising_test (e ∷ []) = record { out = (λ h. (λ a m. absurd (nil_out m), tt)); into = (λ h. tt) }
 rising_test (e ∷ f ∷ es) =
     said (together (itself (lower e f)) (rising_test (f ∷ es)))
     (λ h. (every_cons (λ y. T (lower e y)) h.0 (λ a m. earlier_order.trans e.node f.node a.node h.0 (h.1.0 a m)), h.1))

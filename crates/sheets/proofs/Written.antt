@@ -81,8 +81,8 @@ entries_back : (es : List Entry) → Every EntryFits es → (bytes : List ℕ) (
 unfolding series flat_map bytes_of
 entries_back [] f bytes at h = refl
 entries_back (e ∷ es) f bytes at h =
-    let zero-on : at + 8 * 0 ≡ at = omega arith in
-    let first : entry_at bytes (at + 8 * 0) ≡ e = ap (entry_at bytes) zero-on ∙ entry_back e (f e (here refl)) (flat_map entry_bytes es) bytes at h in
+    let zero_on : at + 8 * 0 ≡ at = omega arith in
+    let first : entry_at bytes (at + 8 * 0) ≡ e = ap (entry_at bytes) zero_on ∙ entry_back e (f e (here refl)) (flat_map entry_bytes es) bytes at h in
     let after : drop (at + 8) bytes ≡ flat_map entry_bytes es = sym (drop-drop 8 at bytes) ∙ ap (drop 8) h in
     let on : (i : ℕ) → i < length es → entry_at bytes (at + 8 * suc i) ≡ entry_at bytes (at + 8 + 8 * i) =
     λ i k. (let q : at + 8 * suc i ≡ at + 8 + 8 * i = omega arith in ap (entry_at bytes) q) in

@@ -1,5 +1,5 @@
 -- The rows that the memory shows: how many, which, and what becomes of them when the words of a row are written: a row among them is
--- set, a row behind the last is added. Callers of this crate need length-rowsOf alone. Assumes nothing.
+-- set, a row behind the last is added. Callers of this crate need length_rows_of alone. Assumes nothing.
 use mathlib.Core.Path.{◌≡◌, refl, sym, ap, ap₂, ◌∙◌}
 use mathlib.Core.List.{List, [], ◌∷◌, ◌++◌}
 use Prim.Native.Nat.{ℕ, zero, suc, ◌+◌, ◌*◌, ◌≤◌, ◌<◌}

@@ -5,7 +5,7 @@ use mathlib.Core.Logic.{◌⊎◌, inl, inr}
 use mathlib.Core.List.{List, [], ◌∷◌}
 use Prim.Native.Nat.{ℕ, ◌≤◌}
 use native.Mathlib.Omega.{arith}
-use Rattle.lists.proofs.Membership.{◌∈◌, here, singleton-out, only_member, map-in, map_out}
+use Rattle.lists.proofs.Membership.{◌∈◌, here, singleton_out, only_member, map_in, map_out}
 use Rattle.lists.proofs.Least.{least_le, least_of}
 use Rattle.lists.proofs.Unique.{length_within}
 use Rattle.trellis.specs.Trellis.{Trellis}
@@ -34,14 +34,14 @@ pub record Answerable (t : Trellis) (room allowance : ℕ) (w : List ℕ) : Type
 -- no message has a metric below the least
 least_below : (t : Trellis) {w : List ℕ} → w ∈ messages t → least_metric t ≤ metric_of t w
 unfolding least_metric
-least_below t m = least_le _ (map-in (metric_of t) m)
+least_below t m = least_le _ (map_in (metric_of t) m)
 
 module _ {t : Trellis} {w : List ℕ} where
   -- its metric is the least
   pub alone_paid : Alone t w → metric_of t w ≡ least_metric t
   unfolding least_metric
   alone_paid a =
-      let v = map_out (metric_of t) (messages t) (least_of (map-in (metric_of t) a.member)) in
+      let v = map_out (metric_of t) (messages t) (least_of (map_in (metric_of t) a.member)) in
       let e : v.source ≡ w = a.only v.source v.member (omega (arith, v.equal, least_below t a.member)) in
       ap (metric_of t) (sym e) ∙ sym v.equal
 
@@ -62,7 +62,7 @@ alone_out t {w} e =
       member = k.member;
       only = (λ v m h.
           let p : metric_of t v ≡ least_metric t = omega (arith, k.paid, least_below t m) in
-          singleton-out (subst (λ (l : List (List ℕ)). v ∈ l) e (least_messages_in (record { member = m; paid = p }))));
+          singleton_out (subst (λ (l : List (List ℕ)). v ∈ l) e (least_messages_in (record { member = m; paid = p }))));
     }
 
 -- ---- exactly if

@@ -11,7 +11,7 @@ use native.Mathlib.Omega.{arith}
 use lib.Dec.{T}
 use lib.ListN.{length, take}
 use Rattle.lists.specs.Lists.{keep}
-use Rattle.lists.proofs.Membership.{◌∈◌, nil-out, member-cast, take_out, Kept, keep_in, keep_out}
+use Rattle.lists.proofs.Membership.{◌∈◌, nil_out, member_cast, take_out, Kept, keep_in, keep_out}
 use Rattle.lists.proofs.Unique.{keep_unique}
 use Rattle.trellis.specs.Trellis.{Trellis, terminal}
 use Rattle.trellis.specs.Verdict.{Entry, entry, priced, before, ranked, met}
@@ -50,17 +50,17 @@ started_between t cap room c r = record {
     linked = (λ i u h. absurd (omega arith));
     once = (λ i k h l e. omega arith);
     shut = (λ i h e. absurd (live i h e));
-    stored = (λ e m. absurd (nil-out m));
-    reach = (λ f m. absurd (nil-out m));
+    stored = (λ e m. absurd (nil_out m));
+    reach = (λ f m. absurd (nil_out m));
     counted = (λ i h. counted' i h);
-    ahead = (λ m. nil-out m);
+    ahead = (λ m. nil_out m);
   };
   all = record {
     once = tt;
-    sources = (λ f m. absurd (nil-out m));
-    fits = (λ f m. absurd (nil-out m));
+    sources = (λ f m. absurd (nil_out m));
+    fits = (λ f m. absurd (nil_out m));
     new = (λ f m p. p);
-    full = (λ f m h. absurd (nil-out m));
+    full = (λ f m h. absurd (nil_out m));
   };
   held = omega arith;
 }
@@ -84,7 +84,7 @@ pub record OpenRow (rows : List Row) (e : Entry) : Type 0 where
 
 -- one of the first j ranked nodes has its own cost
 closed_in : (t : Trellis) (j : ℕ) (e : Entry) → e ∈ take j (ranked t) → Closed t j e.node
-closed_in t j e m = member-cast (entry_path (sym (cost_computed (ranked_out t (take_out j (ranked t) e m)))) refl) m
+closed_in t j e m = member_cast (entry_path (sym (cost_computed (ranked_out t (take_out j (ranked t) e m)))) refl) m
 
 module _ {t : Trellis} {cap room j : ℕ} {rows : List Row} (inv : Between t cap room j rows) where
   -- an open row's node is not closed

@@ -7,7 +7,7 @@ use native.Mathlib.Omega.{arith}
 use lib.Dec.{eqb, eqb→eq, eqb_refl}
 use lib.ListN.{length}
 use Rattle.lists.specs.Lists.{keep}
-use Rattle.lists.proofs.Membership.{◌∈◌, map-in, map_out, keep_in, keep_out}
+use Rattle.lists.proofs.Membership.{◌∈◌, map_in, map_out, keep_in, keep_out}
 use Rattle.lists.proofs.Unique.{Unique, keep_unique, same_length}
 use Rattle.lists.proofs.Least.{least_le, least_of}
 use Rattle.trellis.specs.Trellis.{Trellis, Path, Node, origin, along, metric, ends, paths_to, cost}
@@ -25,12 +25,12 @@ pub record Cost (t : Trellis) (x : Node) (c : ℕ) : Type 0 where
 pub cost_is : {t : Trellis} {x : Node} {p : Path} → Ends t x p → Cost t x (cost t x)
 unfolding cost
 cost_is {t} {x} h =
-    let r = map_out (metric t) (paths_to t x) (least_of (map-in (metric t) (paths_to_in h))) in
+    let r = map_out (metric t) (paths_to t x) (least_of (map_in (metric t) (paths_to_in h))) in
     record {
       path = r.source;
       there = paths_to_out t x r.member;
       paid = sym r.equal;
-      least = (λ p k. least_le (map (metric t) (paths_to t x)) (map-in (metric t) (paths_to_in k)));
+      least = (λ p k. least_le (map (metric t) (paths_to t x)) (map_in (metric t) (paths_to_in k)));
     }
 
 -- a node has one cost

@@ -8,7 +8,7 @@ use Prim.Native.Nat.{ℕ, zero, suc, ◌+◌, ◌≤◌, ◌<◌, min}
 use native.Mathlib.Decide.{ℕ_discrete}
 use native.Mathlib.Omega.{arith}
 use lib.ListN.{length, take, length-set}
-use Rattle.lists.proofs.Membership.{◌∈◌, here, singleton-out, append-out, append_left, append_right, member-cast}
+use Rattle.lists.proofs.Membership.{◌∈◌, here, singleton_out, append_out, append_left, append_right, member_cast}
 use Rattle.trellis.specs.Trellis.{Trellis, terminal, allowed}
 use Rattle.trellis.specs.Verdict.{Entry, priced, ranked, met}
 use Rattle.trellis.specs.Sheet.{onto}
@@ -88,11 +88,11 @@ module _ {t : Trellis} {cap room j i : ℕ} {rows : List Row} (inv : Between t c
   last = rw next.grows (append_right (take j (ranked t)) (here refl))
 
   split : (e : Entry) → e ∈ take (suc j) (ranked t) → (e ∈ take j (ranked t)) ⊎ (e ≡ z)
-  split e m = go (append-out (take j (ranked t)) (rw next.grows at m))
+  split e m = go (append_out (take j (ranked t)) (rw next.grows at m))
     where
       go : (e ∈ take j (ranked t)) ⊎ (e ∈ (z ∷ [])) → (e ∈ take j (ranked t)) ⊎ (e ≡ z)
       go (inl k) = inl k
-      go (inr k) = inr (singleton-out k)
+      go (inr k) = inr (singleton_out k)
 
   -- the table with row i closed
   table_closed : Table t cap (suc j) inv.taken (closed rows i)
@@ -122,8 +122,8 @@ module _ {t : Trellis} {cap room j i : ℕ} {rows : List Row} (inv : Between t c
           }
 
       shut' : (k : ℕ) → Shut rows i k → (k ≡ i) ⊎ ((row_at rows k).closed ≡ true) → entry_at (closed rows i) k ∈ take (suc j) (ranked t)
-      shut' k s (inl e) = member-cast (s.entry ∙ ap (λ (u : ℕ). entry_at rows u) e) last
-      shut' k s (inr c) = member-cast s.entry (old (inv.table.shut k s.within c))
+      shut' k s (inl e) = member_cast (s.entry ∙ ap (λ (u : ℕ). entry_at rows u) e) last
+      shut' k s (inr c) = member_cast s.entry (old (inv.table.shut k s.within c))
 
       stored' : (e : Entry) → (e ∈ take j (ranked t)) ⊎ (e ≡ z) → Stored (closed rows i) e
       stored' e (inl m) =
@@ -154,7 +154,7 @@ module _ {t : Trellis} {cap room j i : ℕ} {rows : List Row} (inv : Between t c
     fits = inv.all.fits;
     new = (λ f m p.
         open_apart inv i h live
-        (member-cast (entry_path (sym (cost_computed next.known)) refl) (member-cast (sym p.0) (inv.all.sources f m))));
+        (member_cast (entry_path (sym (cost_computed next.known)) refl) (member_cast (sym p.0) (inv.all.sources f m))));
     full = (λ f m u. full' f u (split f.source m));
   }
     where

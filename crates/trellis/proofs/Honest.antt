@@ -7,7 +7,7 @@ use Prim.Native.Nat.{ℕ, ◌≤◌}
 use native.Mathlib.Omega.{arith}
 use lib.Dec.{leb, leb→le, le→leb}
 use Rattle.lists.specs.Lists.{keep, sort}
-use Rattle.lists.proofs.Membership.{◌∈◌, member-cast, Every, map-in, map_out, keep_in, keep_out}
+use Rattle.lists.proofs.Membership.{◌∈◌, member_cast, Every, map_in, map_out, keep_in, keep_out}
 use Rattle.lists.proofs.Unique.{keep_unique}
 use Rattle.lists.proofs.Sorted.{Sorted, sort_in, sort_out, sort_sorted}
 use Rattle.lists.proofs.Images.{keep_map, sort_map, map_sorted}
@@ -46,7 +46,7 @@ module _ (t : Trellis) (m : ℕ) where
   honest_in {e} h =
       let own : e ≡ priced t e.node = entry_path (cost_computed h.priced) refl in
       sort_in lower listing e
-      (keep_in (λ e. leb e.cost m) (member-cast own (map-in (priced t) (reachable_in h.priced.there))) (le→leb e.cost m h.within))
+      (keep_in (λ e. leb e.cost m) (member_cast own (map_in (priced t) (reachable_in h.priced.there))) (le→leb e.cost m h.within))
 
   -- for completeness: nothing else is in
   pub honest_out : {e : Entry} → e ∈ honest t m → Due t m e

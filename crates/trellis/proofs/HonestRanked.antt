@@ -7,7 +7,7 @@ use Prim.Native.Nat.{suc, ◌≤◌}
 use native.Mathlib.Omega.{arith}
 use lib.Dec.{T}
 use lib.ListN.{length, take, length-take}
-use Rattle.lists.proofs.Membership.{◌∈◌, here, append-out, append_right, singleton-out, Every, Within, take_out}
+use Rattle.lists.proofs.Membership.{◌∈◌, here, append_out, append_right, singleton_out, Every, Within, take_out}
 use Rattle.lists.proofs.Unique.{same_length}
 use Rattle.lists.proofs.Sorted.{Sorted, take_sorted, take_or_after, sorted_append, irreflexive_unique}
 use Rattle.trellis.specs.Trellis.{Trellis, terminal}
@@ -60,7 +60,7 @@ module _ {t : Trellis} (law : Lawful t) where
   pub front_honest : Within (take (suc (steps t)) (ranked t)) (honest t (least_metric t))
   front_honest e m = honest_in t (least_metric t) (record {
     priced = ranked_out t (take_out (suc (steps t)) (ranked t) e m);
-    within = go (append-out (take (steps t) (ranked t)) (rw comes at m));
+    within = go (append_out (take (steps t) (ranked t)) (rw comes at m));
   })
     where
       comes : take (suc (steps t)) (ranked t) ≡ take (steps t) (ranked t) ++ (z ∷ [])
@@ -75,7 +75,7 @@ module _ {t : Trellis} (law : Lawful t) where
 
       go : (e ∈ take (steps t) (ranked t)) ⊎ (e ∈ (z ∷ [])) → e.cost ≤ least_metric t
       go (inl k) = low (before_out e z (sorted_append before (take (steps t) (ranked t)) [] z (subst (Sorted before) comes sorted) e k))
-      go (inr k) = omega (arith, ap (λ (u : Entry). u.cost) (singleton-out k), least_cost)
+      go (inr k) = omega (arith, ap (λ (u : Entry). u.cost) (singleton_out k), least_cost)
 
   -- for the sheet's size: E + 1 entries
   pub length_honest : length (honest t (least_metric t)) ≡ suc (steps t)

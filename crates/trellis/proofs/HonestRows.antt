@@ -8,7 +8,7 @@ use Prim.Native.Nat.{ℕ, suc, ◌≤◌, ◌<◌}
 use native.Mathlib.Decide.{ℕ_discrete}
 use native.Mathlib.Omega.{arith}
 use lib.ListN.{length, take, length-take, length-map}
-use Rattle.lists.proofs.Membership.{◌∈◌, here, append_left, append_right, append-out, singleton-out, member-cast, map-in}
+use Rattle.lists.proofs.Membership.{◌∈◌, here, append_left, append_right, append_out, singleton_out, member_cast, map_in}
 use Rattle.lists.proofs.Unique.{length_within}
 use Rattle.lists.proofs.Places.{place_in}
 use Rattle.trellis.specs.Trellis.{Trellis, terminal}
@@ -60,8 +60,8 @@ module _ {t : Trellis} (law : Lawful t) {cap room j i : ℕ} {rows : List Row} (
     first = entry_same 0 (omega (arith, inv.table.some, C.longer)) ∙ inv.table.first;
     once = (λ k l u v q. inv.table.once k l (inside k u) (inside l v)
         (ap (λ (x : Entry). x.node) (sym (entry_same k u)) ∙ q ∙ ap (λ (x : Entry). x.node) (entry_same l v)));
-    listed = (λ k u c. member-cast (entry_same k u) (front_honest law (entry_at rows k) (rw grows (listed' k u c (ℕ_discrete k i)))));
-    stored = (λ x m. stored' x (append-out (take j (ranked t)) (rw grows at (honest_front law x m))));
+    listed = (λ k u c. member_cast (entry_same k u) (front_honest law (entry_at rows k) (rw grows (listed' k u c (ℕ_discrete k i)))));
+    stored = (λ x m. stored' x (append_out (take j (ranked t)) (rw grows at (honest_front law x m))));
   }
     where
       inside : (k : ℕ) → k < length after → k < length rows
@@ -95,7 +95,7 @@ module _ {t : Trellis} (law : Lawful t) {cap room j i : ℕ} {rows : List Row} (
         row = i;
         within = C.within;
         shut = ap (λ (r : Row). r.closed) C.here;
-        equal = entry_same i C.within ∙ sym (singleton-out m);
+        equal = entry_same i C.within ∙ sym (singleton_out m);
       }
 
 -- for the writer: the row of the terminal is the first open one, and closing it leaves the honest sheet in the rows
@@ -129,7 +129,7 @@ length_holds {t} law {rows} H =
     let n : length front ≤ length entries =
     length_within front entries (front_unique t (suc (steps t))) (λ e k.
     let s = H.stored e (front_honest law e k) in
-    member-cast (sym s.equal) (map-in (λ (r : Row). r.entry) (place_in no_row rows s.row s.within))) in
+    member_cast (sym s.equal) (map_in (λ (r : Row). r.entry) (place_in no_row rows s.row s.within))) in
     omega (arith, length-take (suc (steps t)) (ranked t), steps_few t (terminal_reached law), length-map rows (λ (r : Row). r.entry))
 
 -- so where a decode answers, the honest sheet has no more entries than there is room

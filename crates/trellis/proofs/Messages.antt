@@ -9,8 +9,8 @@ use lib.Dec.{eqb, eqb→eq, eqb_refl}
 use lib.ListN.{length, drop, replicate, length-append, length-replicate, length-reverse, length-drop, length-map}
 use lib.Seq.{drop_at}
 use Rattle.lists.specs.Lists.{least}
-use Rattle.lists.proofs.Membership.{◌∈◌, here, further, nil-out, singleton-out, member-cast, Every, every_cons, member_length}
-use Rattle.lists.proofs.Membership.{keep_in, keep_out, map-in, map_out, reverse_out}
+use Rattle.lists.proofs.Membership.{◌∈◌, here, further, nil_out, singleton_out, member_cast, Every, every_cons, member_length}
+use Rattle.lists.proofs.Membership.{keep_in, keep_out, map_in, map_out, reverse_out}
 use Rattle.lists.proofs.Unique.{Unique, keep_unique, map_unique}
 use Rattle.lists.proofs.Least.{least_le, least_of}
 use Rattle.lists.proofs.Words.{grown_in, grown_out, grown_unique}
@@ -37,8 +37,8 @@ words_in n (b ∷ w) h = grown_in n (h b (here refl)) (words_in n w (λ a m. h a
 pub words_out : (n k : ℕ) {w : List ℕ} → w ∈ words n k → Word n k w
 unfolding words
 words_out n zero {w} m =
-    let e : w ≡ [] = singleton-out m in
-    record { length = ap length e; fits = (λ b k. absurd (nil-out (subst (λ (l : List ℕ). b ∈ l) e k))) }
+    let e : w ≡ [] = singleton_out m in
+    record { length = ap length e; fits = (λ b k. absurd (nil_out (subst (λ (l : List ℕ). b ∈ l) e k))) }
 words_out n (suc k) {w} m =
     let r = grown_out n (words n k) m in
     let h = words_out n k r.member in
@@ -50,7 +50,7 @@ words_out n (suc k) {w} m =
 -- so messages can be counted
 pub words_unique : (n k : ℕ) → Unique (words n k)
 unfolding words
-words_unique n zero = (λ m. nil-out m, tt)
+words_unique n zero = (λ m. nil_out m, tt)
 words_unique n (suc k) = grown_unique n (words n k) (words_unique n k)
 
 -- and so are the messages
@@ -69,7 +69,7 @@ span_allowed t (b ∷ p) h f =
 
 -- and back
 span_fits : {t : Trellis} {p : Path} → Allowed t p → length p ≤ t.span → Every (λ b. b < t.inputs) p
-span_fits start h b m = absurd (nil-out m)
+span_fits start h b m = absurd (nil_out m)
 span_fits {t} (step {p = p} k al) h b m = every_cons (λ b. b < t.inputs) (rw (allowed_message t (length p) h) at k) (span_fits al (omega arith)) b m
 
 -- in the tail: zeros
@@ -171,7 +171,7 @@ least_messages_unique t = keep_unique (λ w. eqb (metric_of t w) (least_metric t
 
 -- what zeros hold
 replicate_out : (n a : ℕ) → Every (λ b. b ≡ a) (replicate n a)
-replicate_out zero a b m = absurd (nil-out m)
+replicate_out zero a b m = absurd (nil_out m)
 replicate_out (suc n) a b (here e) = e
 replicate_out (suc n) a b (further m) = replicate_out n a b m
 
@@ -200,13 +200,13 @@ module _ {t : Trellis} (law : Lawful t) where
   pub least_metric_cost : Cost t (terminal t) (least_metric t)
   unfolding least_metric
   least_metric_cost =
-      let r = map_out (metric_of t) (messages t) (least_of (map-in (metric_of t) message_some)) in
+      let r = map_out (metric_of t) (messages t) (least_of (map_in (metric_of t) message_some)) in
       record { path = path_of t r.source; there = path_of_ends r.member; paid = sym r.equal; least = (λ p h. low p h) }
     where
       low : (p : Path) → Ends t (terminal t) p → least (map (metric_of t) (messages t)) ≤ metric t p
       low p h =
           let own : metric_of t (message_of t p) ≡ metric t p = ap (metric t) (path_of_message_of t h.allowed h.level) in
-          omega (arith, least_le (map (metric_of t) (messages t)) (map-in (metric_of t) (message_of_in t h.allowed h.level)))
+          omega (arith, least_le (map (metric_of t) (messages t)) (map_in (metric_of t) (message_of_in t h.allowed h.level)))
 
   -- to go on with a cost that was found
   pub least_metric_is : {c : ℕ} → Cost t (terminal t) c → least_metric t ≡ c
@@ -224,7 +224,7 @@ module _ {t : Trellis} (law : Lawful t) where
     paid = (λ p m. let r = map_out (path_of t) (least_messages t) m in ap (metric t) r.equal ∙ (least_messages_out t r.member).paid);
     full = (λ p h e.
         let q : path_of t (message_of t p) ≡ p = path_of_message_of t h.allowed h.level in
-        member-cast (sym q) (map-in (path_of t) (least_messages_in (record { member = message_of_in t h.allowed h.level; paid = ap (metric t) q ∙ e }))));
+        member_cast (sym q) (map_in (path_of t) (least_messages_in (record { member = message_of_in t h.allowed h.level; paid = ap (metric t) q ∙ e }))));
   }
 
   -- never empty: 'some message always has it'
@@ -246,11 +246,11 @@ module _ {t : Trellis} (law : Lawful t) where
     pub least_messages_one : {p : Path} → LeastPaths t (terminal t) c (p ∷ []) → least_messages t ≡ message_of t p ∷ []
     least_messages_one {p} r =
         go (least_messages t) (least_messages_length r)
-        (λ w m. r.full (path_of t w) (own_paths.there (path_of t w) (map-in (path_of t) m)) (own_paths.paid (path_of t w) (map-in (path_of t) m)))
+        (λ w m. r.full (path_of t w) (own_paths.there (path_of t w) (map_in (path_of t) m)) (own_paths.paid (path_of t w) (map_in (path_of t) m)))
       where
         go : (l : List (List ℕ)) → length l ≡ 1 → ((w : List ℕ) → w ∈ l → path_of t w ∈ (p ∷ [])) → l ≡ message_of t p ∷ []
         go [] e f = absurd (omega arith)
-        go (w ∷ []) e f = ap (λ (v : List ℕ). v ∷ []) (sym (message_of_path_of t w) ∙ ap (message_of t) (singleton-out (f w (here refl))))
+        go (w ∷ []) e f = ap (λ (v : List ℕ). v ∷ []) (sym (message_of_path_of t w) ∙ ap (message_of t) (singleton_out (f w (here refl))))
         go (w ∷ v ∷ l) e f = absurd (omega arith)
 
     -- ---- the verdict from them

@@ -9,7 +9,7 @@ use lib.Dec.{T}
 use lib.ListN.{length, take, drop, length-map, length-take, length-append, take-append-drop}
 use lib.Seq.{take-suc}
 use Rattle.lists.specs.Lists.{keep, distinct}
-use Rattle.lists.proofs.Membership.{◌∈◌, here, further, member-cast, append_right, Every, Within, take_out, take_more, keep_in}
+use Rattle.lists.proofs.Membership.{◌∈◌, here, further, member_cast, append_right, Every, Within, take_out, take_more, keep_in}
 use Rattle.lists.proofs.Membership.{Mapped, map_out, FlatMapped, flat_map_in, flat_map_out}
 use Rattle.lists.proofs.Unique.{Unique, map_unique, length_within, same_length}
 use Rattle.lists.proofs.Distinct.{distinct_in, distinct_out, distinct_unique}
@@ -186,4 +186,4 @@ module _ (t : Trellis) (j : ℕ) where
       omega (arith, length-map firsts (λ (e : Entry). e.node), length-take (suc j) (ranked t))
     where
       go : (x : Node) → Mapped (λ (e : Entry). e.node) firsts x → x ∈ met_nodes t j
-      go x r = member-cast r.equal (firsts_met r.source r.member)
+      go x r = member_cast r.equal (firsts_met r.source r.member)

@@ -9,7 +9,7 @@ use borrow.Author.Tests.{lt-ltb, le-ltb, ltb-false}
 use lib.ListN.{length}
 use Rattle.lists.specs.Lists.{below}
 use Rattle.lists.proofs.Tests.{and_in, and_out, test, false_out}
-use Rattle.lists.proofs.Membership.{◌∈◌, here, nil-out, singleton-out, member-cast, keep_in, keep_out, map-in, map_out, flat_map_in, flat_map_out, below_in}
+use Rattle.lists.proofs.Membership.{◌∈◌, here, nil_out, singleton_out, member_cast, keep_in, keep_out, map_in, map_out, flat_map_in, flat_map_out, below_in}
 use Rattle.lists.proofs.Unique.{Unique, keep_unique}
 use Rattle.lists.proofs.Distinct.{Equality, distinct_in, distinct_out, distinct_unique}
 use Rattle.lists.proofs.Words.{grown_in, grown_out, grown_unique}
@@ -64,7 +64,7 @@ paths_in {t} {x} {p} h = subst (λ (l : ℕ). p ∈ paths t l) h.level (go h.all
 -- and back
 pub paths_out : (t : Trellis) (k : ℕ) {p : Path} → p ∈ paths t k → Ends t (node k (ends t p)) p
 unfolding paths
-paths_out t zero {p} m = let e : p ≡ [] = singleton-out m in record { allowed = subst (Allowed t) (sym e) start; level = ap length e; state = refl }
+paths_out t zero {p} m = let e : p ≡ [] = singleton_out m in record { allowed = subst (Allowed t) (sym e) start; level = ap length e; state = refl }
 paths_out t (suc k) {p} m =
     let r = grown_out (allowed t k) (paths t k) m in
     let h : Ends t (node k (ends t r.rest)) r.rest = paths_out t k r.member in
@@ -77,7 +77,7 @@ paths_out t (suc k) {p} m =
 -- no path is listed twice
 pub paths_unique : (t : Trellis) (k : ℕ) → Unique (paths t k)
 unfolding paths
-paths_unique t zero = (λ m. nil-out m, tt)
+paths_unique t zero = (λ m. nil_out m, tt)
 paths_unique t (suc k) = grown_unique (allowed t k) (paths t k) (paths_unique t k)
 
 -- the listed paths to a node are the allowed ones that end there
@@ -126,8 +126,8 @@ pub reachable_in : {t : Trellis} {x : Node} {p : Path} → Ends t x p → x ∈ 
 unfolding reachable
 reachable_in {t} {x} {p} h =
     distinct_in same same_equality (map (end_node t) (flat_map (paths t) (below (suc (top t))))) x
-    (member-cast (node_path (sym h.level) (sym h.state))
-    (map-in (end_node t) (flat_map_in (paths t) (below_in (suc (top t)) (omega (arith, path_short h.allowed))) (paths_in (ends_here h.allowed)))))
+    (member_cast (node_path (sym h.level) (sym h.state))
+    (map_in (end_node t) (flat_map_in (paths t) (below_in (suc (top t)) (omega (arith, path_short h.allowed))) (paths_in (ends_here h.allowed)))))
 
 -- and back
 pub reachable_out : (t : Trellis) {x : Node} → x ∈ reachable t → Reached t x

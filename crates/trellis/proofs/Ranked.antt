@@ -1,11 +1,11 @@
 -- The ranked nodes: sorted, none twice, and exactly the reachable nodes, each with its cost; and each of them but the origin has
 -- its cost from a node ranked before it. (That a node's successors are all ranked after it does not hold: another path may reach a
--- successor at less than the node's own cost. What a branch brings stands later: onto-later, in Order.) Assumes nothing.
+-- successor at less than the node's own cost. What a branch brings stands later: onto_later, in Order.) Assumes nothing.
 use mathlib.Core.Path.{◌≡◌, refl, sym, ap, subst}
 use mathlib.Core.List.{map}
 use Prim.Native.Nat.{ℕ, ◌<◌}
 use lib.Dec.{T}
-use Rattle.lists.proofs.Membership.{◌∈◌, member-cast, map-in, map_out}
+use Rattle.lists.proofs.Membership.{◌∈◌, member_cast, map_in, map_out}
 use Rattle.lists.proofs.Unique.{Unique, map_unique}
 use Rattle.lists.proofs.Sorted.{Sorted, sort_in, sort_out, sort_sorted, sorted_unique}
 use Rattle.trellis.specs.Trellis.{Trellis, allowed, reachable}
@@ -25,7 +25,7 @@ pub ranked_in : {t : Trellis} {e : Entry} → Priced t e → e ∈ ranked t
 unfolding ranked
 ranked_in {t} {e} h =
     sort_in before (map (priced t) (reachable t)) e
-    (member-cast (entry_path (cost_computed h) refl) (map-in (priced t) (reachable_in h.there)))
+    (member_cast (entry_path (cost_computed h) refl) (map_in (priced t) (reachable_in h.there)))
 
 -- and back
 pub ranked_out : (t : Trellis) {e : Entry} → e ∈ ranked t → Priced t e

@@ -8,7 +8,7 @@ use native.Mathlib.Omega.{arith}
 use lib.Dec.{T}
 use lib.ListN.{length}
 use Rattle.lists.specs.Lists.{keep, below, least}
-use Rattle.lists.proofs.Membership.{◌∈◌, member-cast, keep_in, keep_out, map-in, map_out, flat_map_in, flat_map_out, below_in, below_out}
+use Rattle.lists.proofs.Membership.{◌∈◌, member_cast, keep_in, keep_out, map_in, map_out, flat_map_in, flat_map_out, below_in, below_out}
 use Rattle.lists.proofs.Least.{least_le, least_of}
 use Rattle.trellis.specs.Trellis.{Trellis, Path, Node, node, allowed, ends, along, metric, end_node, same, origin, reachable, cost, successors}
 use Rattle.trellis.specs.Lawful.{Allowed, step, Ends}
@@ -33,7 +33,7 @@ pub record Enters (t : Trellis) (x : Node) (from : Node) (input : ℕ) : Type 0 
 -- the successors are the nodes that allowed branches enter
 pub successors_in : {t : Trellis} {x y : Node} {b : ℕ} → Enters t y x b → y ∈ successors t x
 unfolding successors
-successors_in {t} {x} h = member-cast h.leads (map-in (across t x) (below_in (allowed t x.level) h.fits))
+successors_in {t} {x} h = member_cast h.leads (map_in (across t x) (below_in (allowed t x.level) h.fits))
 
 -- the branch by which y succeeds x
 pub record Succeeds (t : Trellis) (x y : Node) : Type 0 where
@@ -128,9 +128,9 @@ arrivals_in {t} {x} {c} r =
     let fits = below_in (allowed t y.level) r.enters.fits in
     let leads : T (same (across t y r.input) x) = rw r.enters.leads (same_equality.complete (across t y r.input)) in
     let paid : c ≡ cost t y + fare t y r.input = omega (arith, r.paid, cost_computed r.known) in
-    member-cast paid
+    member_cast paid
     (flat_map_in (arrivals_from t x) (reachable_in r.known.there)
-    (map-in (λ b. cost t y + fare t y b) (keep_in (λ b. same (across t y b) x) fits leads)))
+    (map_in (λ b. cost t y + fare t y b) (keep_in (λ b. same (across t y b) x) fits leads)))
 
 -- and back
 pub arrivals_out : (t : Trellis) (x : Node) {c : ℕ} → c ∈ arrivals t x → Predecessor t x c

@@ -7,7 +7,7 @@ use mathlib.Core.List.{List, [], ◌∷◌}
 use Prim.Native.Nat.{ℕ, ◌≤◌, ◌<◌, min}
 use native.Mathlib.Omega.{arith}
 use lib.ListN.{length}
-use Rattle.lists.proofs.Membership.{◌∈◌, here, further, singleton-out}
+use Rattle.lists.proofs.Membership.{◌∈◌, here, further, singleton_out}
 use Rattle.lists.proofs.Unique.{Unique}
 use Rattle.trellis.specs.Trellis.{Trellis}
 use Rattle.trellis.specs.Verdict.{steps, met, least_metric, least_messages, room_short, allowance_spent, tied, last_fit, decided, verdict}
@@ -111,7 +111,7 @@ tied_in {t} {room} {allowance} h =
   where
     go : (l : List (List ℕ)) → h.shared.one ∈ l → h.shared.other ∈ l → decided t l ≡ tied (least_metric t) (steps t)
     go [] a b = refl
-    go (w ∷ []) a b = absurd (h.shared.apart (singleton-out a ∙ sym (singleton-out b)))
+    go (w ∷ []) a b = absurd (h.shared.apart (singleton_out a ∙ sym (singleton_out b)))
     go (w ∷ v ∷ more) a b = refl
 
 -- and no other block is

@@ -7,7 +7,7 @@ use mathlib.Core.Bool.{Bool, true, false, true≢false}
 use Prim.Native.Nat.{ℕ, suc, ◌≤◌, ◌<◌, min}
 use native.Mathlib.Omega.{arith}
 use lib.ListN.{length, take, length-set, length-append}
-use Rattle.lists.proofs.Membership.{◌∈◌, here, further, member-cast, eq_or_lt, take_out}
+use Rattle.lists.proofs.Membership.{◌∈◌, here, further, member_cast, eq_or_lt, take_out}
 use Rattle.trellis.specs.Trellis.{Trellis, Node, allowed}
 use Rattle.trellis.specs.Verdict.{Entry, ranked, met}
 use Rattle.trellis.specs.Search.{Row, row_at, entry_at, node_at, cost_at, added, lowered, gained, joined, Tried, arrival, relax}
@@ -61,7 +61,7 @@ taken_more {t} {j} {b} {z} {taken} z_closed u done = record {
 }
   where
     sources' : (f : Branch) → f ∈ (branch z b ∷ taken) → f.source ∈ take j (ranked t)
-    sources' f (here e) = member-cast (ap (λ (g : Branch). g.source) e) z_closed
+    sources' f (here e) = member_cast (ap (λ (g : Branch). g.source) e) z_closed
     sources' f (further m) = done.sources f m
 
     fits' : (f : Branch) → f ∈ (branch z b ∷ taken) → Fits t f

@@ -6,7 +6,7 @@ use mathlib.Core.List.{List, ◌∷◌, map}
 use Prim.Native.Nat.{ℕ, zero, suc, ◌≤◌, ◌<◌}
 use native.Mathlib.Omega.{arith}
 use lib.ListN.{length, length-map}
-use Rattle.lists.proofs.Membership.{◌∈◌, here, further, member-cast, Within, map-in, map_out, Mapped}
+use Rattle.lists.proofs.Membership.{◌∈◌, here, further, member_cast, Within, map_in, map_out, Mapped}
 use Rattle.lists.proofs.Unique.{Unique}
 use Rattle.lists.proofs.Places.{place_out, place_in, places_unique}
 use Rattle.trellis.specs.Trellis.{Trellis, Node, origin}
@@ -44,7 +44,7 @@ module _ {t : Trellis} {cap j : ℕ} {taken : List Branch} {rows : List Row} (in
   nodes_met x m = go (map_out node_of rows m)
     where
       go : Mapped node_of rows x → x ∈ met_nodes t j
-      go r = let p = place_out no_row rows r.member in member-cast (r.equal ∙ ap node_of (sym p.equal)) (row_met p.index p.within)
+      go r = let p = place_out no_row rows r.member in member_cast (r.equal ∙ ap node_of (sym p.equal)) (row_met p.index p.within)
 
   -- a node met that has no row: D(j) is more than the rows
   pub rows_short : (x : Node) → x ∈ met_nodes t j → ((i : ℕ) → i < length rows → node_of (row_at rows i) ≡ x → ⊥) → length rows < met t j
@@ -56,7 +56,7 @@ module _ {t : Trellis} {cap j : ℕ} {taken : List Branch} {rows : List Row} (in
       new r = let p = place_out no_row rows r.member in none p.index p.within (ap node_of p.equal ∙ sym r.equal)
 
       met' : Within (x ∷ map node_of rows) (met_nodes t j)
-      met' y (here e) = member-cast e m
+      met' y (here e) = member_cast e m
       met' y (further k) = nodes_met y k
 
   -- all branches taken: the rows are D(j)
@@ -64,7 +64,7 @@ module _ {t : Trellis} {cap j : ℕ} {taken : List Branch} {rows : List Row} (in
   rows_met all = sym (length-map rows node_of) ∙ length_all_met t j (map node_of rows) nodes_unique nodes_met (λ x m. go x (met_out t j x m))
     where
       at : (i : ℕ) (x : Node) → i < length rows → node_of (row_at rows i) ≡ x → x ∈ map node_of rows
-      at i x h e = member-cast (sym e) (map-in node_of (place_in no_row rows i h))
+      at i x h e = member_cast (sym e) (map_in node_of (place_in no_row rows i h))
 
       pick : (f : Branch) → (f ∈ taken) ⊎ ⊥ → Covered rows (lands t f)
       pick f (inl m) = inv.reach f m

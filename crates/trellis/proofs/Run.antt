@@ -9,7 +9,7 @@ use native.Mathlib.Omega.{arith}
 use lib.Dec.{T}
 use lib.ListN.{length, take}
 use Rattle.lists.proofs.Tests.{test, true_out, false_out}
-use Rattle.lists.proofs.Membership.{◌∈◌, singleton-out, append-out}
+use Rattle.lists.proofs.Membership.{◌∈◌, singleton_out, append_out}
 use Rattle.trellis.specs.Trellis.{Trellis, Node, same, terminal}
 use Rattle.trellis.specs.Verdict.{Entry, priced, ranked, steps, met}
 use Rattle.trellis.specs.Lawful.{Lawful}
@@ -92,14 +92,14 @@ module _ {t : Trellis} (law : Lawful t) {cap room : ℕ} where
       pub further : j < steps t
       further =
           steps_past t (suc j) (terminal_reached law) (next_inside t j (entry_at rows (first_open rows)) next.grows)
-          (λ m. go (append-out (take j (ranked t)) (rw next.grows at m)))
+          (λ m. go (append_out (take j (ranked t)) (rw next.grows at m)))
         where
           next : Next t cap j (first_open rows) rows
           next = between_next inv (first_open_is rows) inside
 
           go : Closed t j (terminal t) ⊎ (priced t (terminal t) ∈ (entry_at rows (first_open rows) ∷ [])) → ⊥
           go (inl m) = inv.table.ahead m
-          go (inr m) = apart (ap (λ (x : Entry). x.node) (sym (singleton-out m)))
+          go (inr m) = apart (ap (λ (x : Entry). x.node) (sym (singleton_out m)))
 
       -- the run's step
       pub step_going : Going (Between t cap room (suc j)) (room < met t (suc j)) (after t cap room rows)

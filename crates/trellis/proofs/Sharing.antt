@@ -9,8 +9,8 @@ use native.Mathlib.Omega.{arith}
 use lib.Dec.{eqb}
 use lib.ListN.{length, length-append, length-map}
 use Rattle.lists.specs.Lists.{keep}
-use Rattle.lists.proofs.Membership.{◌∈◌, here, nil-out, append-out, singleton-out, append_left, append_right}
-use Rattle.lists.proofs.Membership.{map-in, map_out, flat_map_in, flat_map_out, FlatMapped}
+use Rattle.lists.proofs.Membership.{◌∈◌, here, nil_out, append_out, singleton_out, append_left, append_right}
+use Rattle.lists.proofs.Membership.{map_in, map_out, flat_map_in, flat_map_out, FlatMapped}
 use Rattle.lists.proofs.Unique.{Unique, append_unique, map_unique, flat_map_unique}
 use Rattle.trellis.specs.Trellis.{Trellis, Path, Node, origin, allowed, ends, along, metric, end_node, paths_to, cost}
 use Rattle.trellis.specs.Verdict.{Entry, entry}
@@ -106,12 +106,12 @@ roots_in (suc l) e = absurd (omega arith)
 
 roots_out : (l : ℕ) (p : Path) → p ∈ roots l → (l ≡ 0) × (p ≡ [])
 unfolding roots
-roots_out zero p m = (refl, singleton-out m)
-roots_out (suc l) p m = absurd (nil-out m)
+roots_out zero p m = (refl, singleton_out m)
+roots_out (suc l) p m = absurd (nil_out m)
 
 roots_unique : (l : ℕ) → Unique (roots l)
 unfolding roots
-roots_unique zero = ((λ m. nil-out m), tt)
+roots_unique zero = ((λ m. nil_out m), tt)
 roots_unique (suc l) = tt
 
 -- the least paths of a branch's source, each gone on by the branch
@@ -158,8 +158,8 @@ module _ {t : Trellis} {e : Entry} {fs : List Branch} (known : Priced t e) (leas
     once = append_unique (roots e.node.level) (flat_map (gone t) fs) (roots_unique e.node.level)
         (flat_map_unique (gone t) fs gone_unique (gone_apart t) least.once)
         (λ p m n. apart p (roots_out e.node.level p m).1 (flat_map_out (gone t) fs n));
-    there = (λ p m. there' p (append-out (roots e.node.level) m));
-    paid = (λ p m. paid' p (append-out (roots e.node.level) m));
+    there = (λ p m. there' p (append_out (roots e.node.level) m));
+    paid = (λ p m. paid' p (append_out (roots e.node.level) m));
     full = (λ p h c. full' p h c);
   }
     where
@@ -199,7 +199,7 @@ module _ {t : Trellis} {e : Entry} {fs : List Branch} (known : Priced t e) (leas
           let f : Branch = branch (mark t q) b in
           let m : f ∈ fs = least.full f (subst (λ (u : ℕ). Cost t (end_node t q) u) own k) (ends_last h).fits (entry_path c (sym (ends_last h).leads)) in
           append_right (roots e.node.level)
-          (flat_map_in (gone t) m (map-in (λ p. b ∷ p) ((least_paths t (end_node t q) (metric t q)).full q (ends_rest h) refl)))
+          (flat_map_in (gone t) m (map_in (λ p. b ∷ p) ((least_paths t (end_node t q) (metric t q)).full q (ends_rest h) refl)))
 
   -- as many least paths as the sources of its least branches have together
   pub sharing_total : shared t e ≡ starting e.node.level + total (map (λ f. shared t f.source) fs)

@@ -8,7 +8,7 @@ use Prim.Native.Nat.{ℕ, ◌+◌, ◌≤◌, ◌<◌}
 use native.Mathlib.Decide.{dec_lt}
 use native.Mathlib.Omega.{arith}
 use lib.Dec.{T}
-use Rattle.lists.proofs.Membership.{◌∈◌, here, further, singleton-out}
+use Rattle.lists.proofs.Membership.{◌∈◌, here, further, singleton_out}
 use Rattle.lists.proofs.Tests.{true_out}
 use Rattle.trellis.specs.Trellis.{Trellis, Path, Node, ends, along, metric, end_node, terminal, cost}
 use Rattle.trellis.specs.Verdict.{Entry, entry, priced, path_of, least_metric, least_messages}
@@ -45,7 +45,7 @@ module _ {t : Trellis} {p q : Path} (rival : Ends t (end_node t p) q) where
 
   exchange : {own : Path} → Allowed t own → p ∈ parts own → Exchanged t own p q
   unfolding ends along
-  exchange start m = exchange_whole [] (singleton-out m)
+  exchange start m = exchange_whole [] (singleton_out m)
   exchange (step {b = a} {p = own} u al) (here e) = exchange_whole (a ∷ own) e
   exchange (step {b = a} {p = own} u al) (further m) =
       let x : Exchanged t own p q = exchange al m in
@@ -79,14 +79,14 @@ module _ {t : Trellis} {own : Path} (al : Allowed t own)
       go q h (no n) = omega arith
       go q h (yes n) = let e : metric t q ≡ metric t p = ap (metric t) (alone_part p q part h (omega arith)) in omega arith
 
-  module _ {sheet : List Entry} (own-sheet : Honest t (metric t own) sheet) where
+  module _ {sheet : List Entry} (own_sheet : Honest t (metric t own) sheet) where
     -- C
     listed : (p : Path) → p ∈ parts own → mark t p ∈ sheet
-    listed p part = own-sheet.all (mark t p) (record { priced = cost_part p part; within = parts_metric t own part })
+    listed p part = own_sheet.all (mark t p) (record { priced = cost_part p part; within = parts_metric t own part })
 
     -- D: a branch as cheap as the path's own would make a rival of its last part
     dearer : (a : ℕ) (p : Path) → (a ∷ p) ∈ parts own → AllBranches t sheet (Dearer t a p)
-    dearer a p part e member b u enters apart = go (own-sheet.only e member).priced (dec_lt (metric t (a ∷ p)) (onto t e b).cost)
+    dearer a p part e member b u enters apart = go (own_sheet.only e member).priced (dec_lt (metric t (a ∷ p)) (onto t e b).cost)
       where
         go : Priced t e → Dec (metric t (a ∷ p) < (onto t e b).cost) → metric t (a ∷ p) < (onto t e b).cost
         go c (yes h) = h
@@ -108,14 +108,14 @@ module _ {t : Trellis} {own : Path} (al : Allowed t own)
     onward e member b u h =
         let x : Node = (onto t e b).node in
         let enters : Enters t x e.node b = record { fits = u; leads = refl } in
-        let c : Cost t x (cost t x) = cost_is (extend (own-sheet.only e member).priced.there enters) in
-        let low : cost t x ≤ (onto t e b).cost = cost_enters c (own-sheet.only e member).priced enters in
-        record { cost = cost t x; here = own-sheet.all (priced t x) (record { priced = c; within = omega arith }); small = low }
+        let c : Cost t x (cost t x) = cost_is (extend (own_sheet.only e member).priced.there enters) in
+        let low : cost t x ≤ (onto t e b).cost = cost_enters c (own_sheet.only e member).priced enters in
+        record { cost = cost t x; here = own_sheet.all (priced t x) (record { priced = c; within = omega arith }); small = low }
 
     -- A to D together
     pub honest_carries : Carries t (metric t own) sheet own
     honest_carries = record {
-      begun = own-sheet.all (entry 0 0 0) (record { priced = cost_origin t; within = omega arith });
+      begun = own_sheet.all (entry 0 0 0) (record { priced = cost_origin t; within = omega arith });
       onward = onward;
       listed = listed;
       paid = refl;
@@ -139,7 +139,7 @@ module _ {t : Trellis} (law : Lawful t) {w : List ℕ} (one : least_messages t �
       let at : Ends t (terminal t) q = subst (λ (x : Node). Ends t x q) (node_path there.level there.state) h in
       let paid : metric t q ≡ least_metric t = omega (arith, (least_metric_cost law).least q at, least_one.paid) in
       let r = (least_messages_paths law).full q at paid in
-      singleton-out (subst (λ (l : List (List ℕ)). q ∈ map (path_of t) l) one r)
+      singleton_out (subst (λ (l : List (List ℕ)). q ∈ map (path_of t) l) one r)
 
   -- for the decoder that writes a sheet: the check accepts what it writes
   pub sheet_complete : carries t (least_metric t) (honest t (least_metric t)) (path_of t w) ≡ true

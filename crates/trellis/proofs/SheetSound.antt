@@ -11,7 +11,7 @@ use native.Mathlib.Decide.{ℕ_discrete, dec_lt}
 use native.Mathlib.Omega.{arith}
 use lib.ListN.{length}
 use Rattle.lists.proofs.Tests.{true_in}
-use Rattle.lists.proofs.Membership.{◌∈◌, here, nil-out, every_cons}
+use Rattle.lists.proofs.Membership.{◌∈◌, here, nil_out, every_cons}
 use Rattle.trellis.specs.Trellis.{Trellis, Path, Node, terminal, ends, along, metric, end_node}
 use Rattle.trellis.specs.Verdict.{Entry, messages, path_of, least_metric, least_messages}
 use Rattle.trellis.specs.Sheet.{onto, carries}
@@ -96,8 +96,8 @@ sheet_sound {t} law {m} sheet {w} member accepted = record {
 
     paths : LeastPaths t (terminal t) m (path_of t w ∷ [])
     paths = record {
-      once = (λ k. nil-out k, tt);
-      there = every_cons (Ends t (terminal t)) there (λ q k. absurd (nil-out k));
-      paid = every_cons (λ q. metric t q ≡ m) ok.paid (λ q k. absurd (nil-out k));
+      once = (λ k. nil_out k, tt);
+      there = every_cons (Ends t (terminal t)) there (λ q k. absurd (nil_out k));
+      paid = every_cons (λ q. metric t q ≡ m) ok.paid (λ q k. absurd (nil_out k));
       full = (λ q at e. here (sole_there q at (omega arith)));
     }

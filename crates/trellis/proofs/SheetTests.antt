@@ -8,7 +8,7 @@ use mathlib.Core.Bool.{Bool, ◌&&◌}
 use Prim.Native.Nat.{ℕ, ◌≤◌, ◌<◌}
 use native.Mathlib.Omega.{arith}
 use Rattle.lists.specs.Lists.{below}
-use Rattle.lists.proofs.Membership.{◌∈◌, here, further, nil-out, member-cast, Every, every_cons, below_in, below_out}
+use Rattle.lists.proofs.Membership.{◌∈◌, here, further, nil_out, member_cast, Every, every_cons, below_in, below_out}
 use Rattle.lists.proofs.Decides.{Decides, said, together, either, whenever, each, some, equal, less, at_most}
 use Rattle.trellis.specs.Trellis.{Trellis, Path, Node, same, allowed, ends, along, metric, end_node}
 use Rattle.trellis.specs.Verdict.{Entry, entry}
@@ -30,7 +30,7 @@ pub listed_as_test : (sheet : List Entry) (e : Entry) → Decides (listed_as she
 unfolding listed_as
 listed_as_test sheet e =
     said (some (λ f. together (same_test f.node e.node) (equal f.cost e.cost)) sheet)
-    (λ f. member-cast (entry_path (sym f.2.1) (sym f.2.0)) f.1) (λ m. (e, m, (refl, refl)))
+    (λ f. member_cast (entry_path (sym f.2.1) (sym f.2.0)) f.1) (λ m. (e, m, (refl, refl)))
 
 -- for B: listed with a cost of at most this
 pub record Listed (sheet : List Entry) (x : Node) (c : ℕ) : Type 0 where
@@ -43,14 +43,14 @@ pub listed_within_test : (sheet : List Entry) (x : Node) (c : ℕ) → Decides (
 unfolding listed_within
 listed_within_test sheet x c =
     said (some (λ f. together (same_test f.node x) (at_most f.cost c)) sheet)
-    (λ f. record { cost = f.0.cost; here = member-cast (entry_path refl (sym f.2.0)) f.1; small = f.2.1 })
+    (λ f. record { cost = f.0.cost; here = member_cast (entry_path refl (sym f.2.0)) f.1; small = f.2.1 })
     (λ l. (record { cost = l.cost; node = x }, l.here, (refl, l.small)))
 
 -- ---- the parts of a path
 
 -- for C and D, which go through the parts one by one
 first_part : (Q : Path → Type 0) {test : Bool} → Decides test (Q []) → Decides test (Every Q (parts []))
-first_part Q d = said d (λ h. every_cons Q h (λ p m. absurd (nil-out m))) (λ h. h [] (here refl))
+first_part Q d = said d (λ h. every_cons Q h (λ p m. absurd (nil_out m))) (λ h. h [] (here refl))
 
 -- one part more
 more_parts : (Q : Path → Type 0) {a : ℕ} {p : Path} {test tests : Bool} → Decides test (Q (a ∷ p)) → Decides tests (Every Q (parts p))

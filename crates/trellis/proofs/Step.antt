@@ -8,7 +8,7 @@ use Prim.Native.Nat.{ℕ, zero, suc, ◌≤◌, ◌<◌}
 use native.Mathlib.Omega.{arith}
 use lib.Dec.{T}
 use lib.ListN.{take}
-use Rattle.lists.proofs.Membership.{◌∈◌, here, further, nil-out, member-cast, eq_or_lt}
+use Rattle.lists.proofs.Membership.{◌∈◌, here, further, nil_out, member_cast, eq_or_lt}
 use Rattle.lists.proofs.Sorted.{Sorted}
 use Rattle.trellis.specs.Trellis.{Trellis, Path, Node, origin, allowed, ends, along, metric, end_node, cost}
 use Rattle.trellis.specs.Verdict.{Entry, entry, priced, before, ranked}
@@ -57,7 +57,7 @@ sorted_next [] j z s m new f = elim m [ ]
 sorted_next (y ∷ l) zero z s m new f = ap (λ (u : Entry). u ∷ []) (go m (f y (here refl)))
   where
     go : z ∈ (y ∷ l) → (y ∈ []) ⊎ AtMost z y → y ≡ z
-    go k (inl n) = absurd (nil-out n)
+    go k (inl n) = absurd (nil_out n)
     go k (inr (inl e)) = sym e
     go (here e) (inr (inr h)) = sym e
     go (further k) (inr (inr h)) = absurd (before_order.irrefl y (before_order.trans y z y (s.0 z k) h))
@@ -149,7 +149,7 @@ module _ {t : Trellis} {j : ℕ} {Open : Entry → Type 0} (F : Frontier t j Ope
       end = node_path c.there.level c.there.state
 
       go : Closed t j (end_node t c.path) ⊎ AtMost z (mark t c.path) → (e ∈ take j (ranked t)) ⊎ AtMost z e
-      go (inl k) = inl (member-cast (entry_path (cost_computed c ∙ ap (cost t) (sym end)) (sym end)) k)
+      go (inl k) = inl (member_cast (entry_path (cost_computed c ∙ ap (cost t) (sym end)) (sym end)) k)
       go (inr h) = inr (subst (λ (u : Entry). AtMost z u) (entry_path c.paid end) h)
 
   -- its cost is right
@@ -170,4 +170,4 @@ module _ {t : Trellis} {j : ℕ} {Open : Entry → Type 0} (F : Frontier t j Ope
   pub next_ranked : take (suc j) (ranked t) ≡ take j (ranked t) ++ (z ∷ [])
   next_ranked =
       sorted_next (ranked t) j z (ranked_sorted t) (ranked_in next_exact)
-      (λ m. F.apart z z_open (member-cast (entry_path (sym (cost_computed next_exact)) refl) m)) (λ e m. ranked_after e (ranked_out t m))
+      (λ m. F.apart z z_open (member_cast (entry_path (sym (cost_computed next_exact)) refl) m)) (λ e m. ranked_after e (ranked_out t m))

@@ -11,7 +11,7 @@ use lib.Dec.{T, eqb, eqb→eq, eqb_refl}
 use lib.ListN.{length, take}
 use Rattle.lists.specs.Lists.{keep}
 use Rattle.lists.proofs.Tests.{and_in, and_out}
-use Rattle.lists.proofs.Membership.{◌∈◌, here, further, member-cast, keep_yes, keep_no, keep_none}
+use Rattle.lists.proofs.Membership.{◌∈◌, here, further, member_cast, keep_yes, keep_no, keep_none}
 use Rattle.lists.proofs.Unique.{Unique}
 use Rattle.lists.proofs.Distinct.{Equality}
 use Rattle.trellis.specs.Trellis.{Trellis, Node, same, terminal, allowed}
@@ -235,12 +235,12 @@ module _ {t : Trellis} {cap j : ℕ} {taken : List Branch} {rows after : List Ro
       once' i l h m e (inr p) (inr q) = inv.once i l p.within q.within (cc (e, p.equal, q.equal))
 
       again : r.closed ≡ true → Dec (k < length rows) → r.entry ∈ take j (ranked t)
-      again c (yes h) = let v = A.known h in let o : (row_at rows k).closed ≡ true = sym v.closed ∙ c in member-cast (v.exact o) (inv.shut k h o)
+      again c (yes h) = let v = A.known h in let o : (row_at rows k).closed ≡ true = sym v.closed ∙ c in member_cast (v.exact o) (inv.shut k h o)
       again c (no h) = absurd (true≢false (sym c ∙ A.fresh (omega arith)))
 
       shut' : (i : ℕ) → (row_at after i).closed ≡ true → New i ⊎ Old i → entry_at after i ∈ take j (ranked t)
-      shut' i c (inl n) = member-cast (ap (λ (u : Row). u.entry) n.equal) (again (cc (c, n.equal)) (dec_lt k (length rows)))
-      shut' i c (inr o) = member-cast (ap (λ (u : Row). u.entry) o.equal) (inv.shut i o.within (cc (c, o.equal)))
+      shut' i c (inl n) = member_cast (ap (λ (u : Row). u.entry) n.equal) (again (cc (c, n.equal)) (dec_lt k (length rows)))
+      shut' i c (inr o) = member_cast (ap (λ (u : Row). u.entry) o.equal) (inv.shut i o.within (cc (c, o.equal)))
 
       stored' : {e : Entry} → Stored rows e → Stored after e
       stored' s =

@@ -146,10 +146,10 @@ module _ (c : Code) (l : ℕ) (symbols : List ℤ) {room allowance : ℕ} {first
 
     -- ---- the sheet is put, from any memory that shows the rows with the terminal's closed
 
-    module _ {shown : List Row} (as-closed : shown ≡ closed (rows_of work rows) row) where
+    module _ {shown : List Row} (as_closed : shown ≡ closed (rows_of work rows) row) where
       -- its closed rows hold the honest entries
       shown_holds : Holds (honest t (least_metric t)) shown
-      shown_holds = rw as-closed answer_left.holds
+      shown_holds = rw as_closed answer_left.holds
 
       -- the costs fit four bytes
       light : least_metric t < 2 ^ 32

@@ -1,4 +1,4 @@
--- `read_full` ends: the measure is how many places are left to fill.
+-- `read_full` stays within its buffer and ends: the measure is how many places are left to fill.
 use Rattle.std.proofs.Common.{length, ◌-◌, ◌≤◌}
 use Rattle.fields.proofs.read_full.Given as goal
 

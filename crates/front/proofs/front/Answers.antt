@@ -40,16 +40,16 @@ pub returns-then-index-count : goal.returns-then-index-count
 unfolding told
 returns-then-index-count c =
     let sizes : let a = c.args in sizes_fit (length a.readings.now) (length a.symbols.now) ≡ true = rw (le-leb _ _ c.if-count-lt1.false, le-leb _ _ c.if-count-gt-MOST_READINGS.false, le-leb _ _ c.if-symbols-count.false) in
-    let well-formed : good c.args.front_end ≡ true = sym c.is_good.ensures ∙ not-false c.is_good.result c.if-not-is_good.false-raw in
+    let well_formed : good c.args.front_end ≡ true = sym c.is_good.ensures ∙ not-false c.is_good.result c.if-not-is_good.false-raw in
     let run = c.finite_run-index.ensures in
-    rw run (sym (fronting_not_finite _ _ _ sizes well-formed (rw run at c.if-index-count.true)))
+    rw run (sym (fronting_not_finite _ _ _ sizes well_formed (rw run at c.if-index-count.true)))
 
 pub convert-report-requires : goal.convert-report-requires
 convert-report-requires c =
-    let well-formed : good c.args.front_end ≡ true = sym c.is_good.ensures ∙ not-false c.is_good.result c.if-not-is_good.false-raw in
+    let well_formed : good c.args.front_end ≡ true = sym c.is_good.ensures ∙ not-false c.is_good.result c.if-not-is_good.false-raw in
     let all_finite : let readings = c.args.readings.now in finite_run readings ≡ length readings = omega (arith, run_le c.args.readings.now, c.finite_run-index.ensures, c.if-index-count.false) in
     record {
-      front_good = passes _ well-formed;
+      front_good = passes _ well_formed;
       all_finite = all_finite;
       some = search rules;
       room = search rules;
@@ -59,9 +59,9 @@ pub returns : goal.returns
 unfolding told
 returns c =
     let sizes : let a = c.args in sizes_fit (length a.readings.now) (length a.symbols.now) ≡ true = rw (le-leb _ _ c.if-count-lt1.false, le-leb _ _ c.if-count-gt-MOST_READINGS.false, le-leb _ _ c.if-symbols-count.false) in
-    let well-formed : good c.args.front_end ≡ true = sym c.is_good.ensures ∙ not-false c.is_good.result c.if-not-is_good.false-raw in
+    let well_formed : good c.args.front_end ≡ true = sym c.is_good.ensures ∙ not-false c.is_good.result c.if-not-is_good.false-raw in
     let all_finite : let readings = c.args.readings.now in finite_run readings ≡ length readings = omega (arith, run_le c.args.readings.now, c.finite_run-index.ensures, c.if-index-count.false) in
     let readings = c.args.readings.now in
     let reached : length readings ≤ finite_run readings = omega (arith, all_finite) in
     ap₂ (λ (report : Report) (symbols : List ℤ). handed 0 (length readings) 0 report symbols) c.convert-report.ensures.0 c.convert-report.ensures.1
-    ∙ sym (fronting_done _ _ _ sizes well-formed reached)
+    ∙ sym (fronting_done _ _ _ sizes well_formed reached)

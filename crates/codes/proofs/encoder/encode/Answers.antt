@@ -23,43 +23,43 @@ returns-then-not-keeps_rules c = sym (encoding_bad_code _ _ _ (sym c.keeps_rules
 pub returns-then-bits-lt-SHORTEST_MESSAGE : goal.returns-then-bits-lt-SHORTEST_MESSAGE
 unfolding told
 returns-then-bits-lt-SHORTEST_MESSAGE c =
-    let code-lawful : lawful c.args.code ≡ true = sym c.keeps_rules.ensures ∙ not-false _ c.if-not-keeps_rules.false-raw in
-    sym (encoding_bad_size _ _ _ code-lawful (rw (lt-leb _ _ c.if-bits-lt-SHORTEST_MESSAGE.true)))
+    let code_lawful : lawful c.args.code ≡ true = sym c.keeps_rules.ensures ∙ not-false _ c.if-not-keeps_rules.false-raw in
+    sym (encoding_bad_size _ _ _ code_lawful (rw (lt-leb _ _ c.if-bits-lt-SHORTEST_MESSAGE.true)))
 
 pub returns-then-bits-gt-LONGEST_MESSAGE : goal.returns-then-bits-gt-LONGEST_MESSAGE
 unfolding told
 returns-then-bits-gt-LONGEST_MESSAGE c =
-    let code-lawful : lawful c.args.code ≡ true = sym c.keeps_rules.ensures ∙ not-false _ c.if-not-keeps_rules.false-raw in
-    sym (encoding_bad_size _ _ _ code-lawful (rw (le-leb _ _ c.if-bits-lt-SHORTEST_MESSAGE.false, lt-leb _ _ c.if-bits-gt-LONGEST_MESSAGE.true)))
+    let code_lawful : lawful c.args.code ≡ true = sym c.keeps_rules.ensures ∙ not-false _ c.if-not-keeps_rules.false-raw in
+    sym (encoding_bad_size _ _ _ code_lawful (rw (le-leb _ _ c.if-bits-lt-SHORTEST_MESSAGE.false, lt-leb _ _ c.if-bits-gt-LONGEST_MESSAGE.true)))
 
 pub overflow_mul-symbols : goal.overflow_mul-symbols
 overflow_mul-symbols c =
-    let code-lawful : lawful c.args.code ≡ true = sym c.keeps_rules.ensures ∙ not-false _ c.if-not-keeps_rules.false-raw in
-    let b = lawful_out c.args.code code-lawful in
+    let code_lawful : lawful c.args.code ≡ true = sym c.keeps_rules.ensures ∙ not-false _ c.if-not-keeps_rules.false-raw in
+    let b = lawful_out c.args.code code_lawful in
     omega (arith, c.if-bits-gt-LONGEST_MESSAGE.false, b.memory_most, mul-le-mul_right (length c.args.message.now + c.args.code.memory) b.outputs_most)
 
 pub returns-then-out-symbols : goal.returns-then-out-symbols
 unfolding told
 returns-then-out-symbols c =
-    let code-lawful : lawful c.args.code ≡ true = sym c.keeps_rules.ensures ∙ not-false _ c.if-not-keeps_rules.false-raw in
-    sym (encoding_bad_size _ _ _ code-lawful
+    let code_lawful : lawful c.args.code ≡ true = sym c.keeps_rules.ensures ∙ not-false _ c.if-not-keeps_rules.false-raw in
+    sym (encoding_bad_size _ _ _ code_lawful
     (rw (le-leb _ _ c.if-bits-lt-SHORTEST_MESSAGE.false, le-leb _ _ c.if-bits-gt-LONGEST_MESSAGE.false, lt-leb _ _ c.if-out-symbols.true)))
 
 pub returns-then-not-are_bits : goal.returns-then-not-are_bits
 unfolding told
 returns-then-not-are_bits c =
-    let code-lawful : lawful c.args.code ≡ true = sym c.keeps_rules.ensures ∙ not-false _ c.if-not-keeps_rules.false-raw in
-    let sizes-fit : sizes_fit c.args.code (length c.args.message.now) (length c.args.out.now) ≡ true = rw (le-leb _ _ c.if-bits-lt-SHORTEST_MESSAGE.false, le-leb _ _ c.if-bits-gt-LONGEST_MESSAGE.false, le-leb _ _ c.if-out-symbols.false) in
-    sym (encoding_malformed _ _ _ code-lawful sizes-fit (sym c.are_bits.ensures ∙ not-true _ c.if-not-are_bits.true-raw))
+    let code_lawful : lawful c.args.code ≡ true = sym c.keeps_rules.ensures ∙ not-false _ c.if-not-keeps_rules.false-raw in
+    let sizes_pass : sizes_fit c.args.code (length c.args.message.now) (length c.args.out.now) ≡ true = rw (le-leb _ _ c.if-bits-lt-SHORTEST_MESSAGE.false, le-leb _ _ c.if-bits-gt-LONGEST_MESSAGE.false, le-leb _ _ c.if-out-symbols.false) in
+    sym (encoding_malformed _ _ _ code_lawful sizes_pass (sym c.are_bits.ensures ∙ not-true _ c.if-not-are_bits.true-raw))
 
 pub returns : goal.returns
 unfolding told
 returns c =
-    let code-lawful : lawful c.args.code ≡ true = sym c.keeps_rules.ensures ∙ not-false _ c.if-not-keeps_rules.false-raw in
-    let sizes-fit : sizes_fit c.args.code (length c.args.message.now) (length c.args.out.now) ≡ true = rw (le-leb _ _ c.if-bits-lt-SHORTEST_MESSAGE.false, le-leb _ _ c.if-bits-gt-LONGEST_MESSAGE.false, le-leb _ _ c.if-out-symbols.false) in
+    let code_lawful : lawful c.args.code ≡ true = sym c.keeps_rules.ensures ∙ not-false _ c.if-not-keeps_rules.false-raw in
+    let sizes_pass : sizes_fit c.args.code (length c.args.message.now) (length c.args.out.now) ≡ true = rw (le-leb _ _ c.if-bits-lt-SHORTEST_MESSAGE.false, le-leb _ _ c.if-bits-gt-LONGEST_MESSAGE.false, le-leb _ _ c.if-out-symbols.false) in
     let encodable : Encodable c.args.code c.args.message.now (length c.args.out.now) = record {
-      code = code-lawful;
-      sizes = sizes-fit;
+      code = code_lawful;
+      sizes = sizes_pass;
       bits = sym c.are_bits.ensures ∙ not-false _ c.if-not-are_bits.false-raw;
     } in
     let ok = encodable in

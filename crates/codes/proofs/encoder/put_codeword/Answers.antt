@@ -8,7 +8,7 @@ use native.Mathlib.Omega.{arith}
 use lib.ListN.{length, get_or}
 use lib.Pow.{pow_pos}
 use lib.Seq.{sets, length-take-le}
-use Rattle.lists.proofs.Scan.{all_get_d}
+use Rattle.lists.proofs.Scan.{all_get_or}
 use Rattle.lists.proofs.Tests.{both}
 use Rattle.codes.specs.Limits.{most_memory, shortest_message, longest_message}
 use Rattle.codes.specs.Codes.{from, generators_of, register_of, next_state, branch_outputs, outputs_from, with_tail, codeword, block_length}
@@ -42,7 +42,7 @@ pub with-requires : goal.with-requires
 with-requires c =
     let bounds : Bounds c.args.code = lawful_out c.args.code c.requires.code in
     let memory : c.start-register.result.memory ≡ c.args.code.memory = c.start-register.ensures.0 in
-    let bit_small : get_or c.args.message.now c.loop-i.i 0 ≤ 1 = leb-true _ 1 (all_get_d is_bit c.args.message.now 0 c.loop-i.i refl c.requires.bits) in
+    let bit_small : get_or c.args.message.now c.loop-i.i 0 ≤ 1 = leb-true _ 1 (all_get_or is_bit c.args.message.now 0 c.loop-i.i refl c.requires.bits) in
     let ready : let r = c.loop-i.register in (r.memory ≤ most_memory) × (r.state < 2 ^ r.memory) × (c.bit_at-bit.result ≤ 1) = (
       omega (arith, memory, c.loop-i.invariant.memory, bounds.memory_most),
       rw c.loop-i.invariant.memory c.loop-i.invariant.writing.state,
@@ -68,7 +68,7 @@ pub next-register-requires : goal.next-register-requires
 next-register-requires c =
     let bounds : Bounds c.args.code = lawful_out c.args.code c.requires.code in
     let memory : c.start-register.result.memory ≡ c.args.code.memory = c.start-register.ensures.0 in
-    let bit_small : get_or c.args.message.now c.loop-i.i 0 ≤ 1 = leb-true _ 1 (all_get_d is_bit c.args.message.now 0 c.loop-i.i refl c.requires.bits) in
+    let bit_small : get_or c.args.message.now c.loop-i.i 0 ≤ 1 = leb-true _ 1 (all_get_or is_bit c.args.message.now 0 c.loop-i.i refl c.requires.bits) in
     let ready : let r = c.loop-i.register in (r.memory ≤ most_memory) × (r.state < 2 ^ r.memory) × (c.bit_at-bit.result ≤ 1) = (
       omega (arith, memory, c.loop-i.invariant.memory, bounds.memory_most),
       rw c.loop-i.invariant.memory c.loop-i.invariant.writing.state,
@@ -85,7 +85,7 @@ loop-i-preserved c =
     let memory : c.start-register.result.memory ≡ c.args.code.memory = c.start-register.ensures.0 in
     let bits : List ℕ = with_tail c.start-register.result.memory c.args.message.now in
     let more : c.loop-i.i < length bits = omega (arith, length_with_tail c.start-register.result.memory c.args.message.now, memory, c.loop-i-test.true) in
-    let bit_small : get_or c.args.message.now c.loop-i.i 0 ≤ 1 = leb-true _ 1 (all_get_d is_bit c.args.message.now 0 c.loop-i.i refl c.requires.bits) in
+    let bit_small : get_or c.args.message.now c.loop-i.i 0 ≤ 1 = leb-true _ 1 (all_get_or is_bit c.args.message.now 0 c.loop-i.i refl c.requires.bits) in
     let m = c.start-register.result.memory in
     let out = c.args.out.now in
     let state = c.loop-i.register.state in

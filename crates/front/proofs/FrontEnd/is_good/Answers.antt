@@ -11,8 +11,8 @@ returns-in-Gain c = rw c.in-Gain.is c.is_good_gain.ensures
 pub returns-then-is_finite : goal.returns-then-is_finite
 unfolding good
 returns-then-is_finite c =
-    let finite-offset = sym c.is_finite.ensures ∙ c.if-is_finite.true in
-    rw (c.in-Offset.is, finite-offset) c.is_good_gain-then-is_finite.ensures
+    let finite_offset = sym c.is_finite.ensures ∙ c.if-is_finite.true in
+    rw (c.in-Offset.is, finite_offset) c.is_good_gain-then-is_finite.ensures
 
 pub returns-else-is_finite : goal.returns-else-is_finite
 unfolding good

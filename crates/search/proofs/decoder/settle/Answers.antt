@@ -26,50 +26,50 @@ returns-then-not-keeps_rules c =
 
 pub returns-then-not-sizes_fit : goal.returns-then-not-sizes_fit
 returns-then-not-sizes_fit c =
-    let code-lawful : lawful c.args.code ≡ true = sym c.keeps_rules.ensures ∙ not-false _ c.if-not-keeps_rules.false-raw in
-    settles_bad_size _ _ _ _ _ _ _ _ code-lawful _ _ (sym c.sizes_fit.ensures ∙ not-true _ c.if-not-sizes_fit.true-raw)
+    let code_lawful : lawful c.args.code ≡ true = sym c.keeps_rules.ensures ∙ not-false _ c.if-not-keeps_rules.false-raw in
+    settles_bad_size _ _ _ _ _ _ _ _ code_lawful _ _ (sym c.sizes_fit.ensures ∙ not-true _ c.if-not-sizes_fit.true-raw)
 
 pub see-requires : goal.see-requires
 see-requires c =
-    let code-lawful : lawful c.args.code ≡ true = sym c.keeps_rules.ensures ∙ not-false _ c.if-not-keeps_rules.false-raw in
-    let sizes-true : sizes_fit c.args.code c.args.length (length c.args.symbols.now) c.args.room (length c.args.work.now) c.args.buffer ≡ true = sym c.sizes_fit.ensures ∙ not-false _ c.if-not-sizes_fit.false-raw in
-    let sizes : Fit c.args.code c.args.length (length c.args.symbols.now) c.args.room (length c.args.work.now) c.args.buffer = sizes_fit_out _ _ _ _ _ _ sizes-true in
-    let symbols-fit : length c.args.symbols.now ≤ 864 = omega (arith, sizes.block, block_short c.args.code c.args.length code-lawful sizes.long) in
-    symbols-fit
+    let code_lawful : lawful c.args.code ≡ true = sym c.keeps_rules.ensures ∙ not-false _ c.if-not-keeps_rules.false-raw in
+    let sizes_true : sizes_fit c.args.code c.args.length (length c.args.symbols.now) c.args.room (length c.args.work.now) c.args.buffer ≡ true = sym c.sizes_fit.ensures ∙ not-false _ c.if-not-sizes_fit.false-raw in
+    let sizes : Fit c.args.code c.args.length (length c.args.symbols.now) c.args.room (length c.args.work.now) c.args.buffer = sizes_fit_out _ _ _ _ _ _ sizes_true in
+    let symbols_fit : length c.args.symbols.now ≤ 864 = omega (arith, sizes.block, block_short c.args.code c.args.length code_lawful sizes.long) in
+    symbols_fit
 
 pub slice_bounds-seen-end : goal.slice_bounds-seen-end
 slice_bounds-seen-end c =
-    let code-lawful : lawful c.args.code ≡ true = sym c.keeps_rules.ensures ∙ not-false _ c.if-not-keeps_rules.false-raw in
-    let sizes-true : sizes_fit c.args.code c.args.length (length c.args.symbols.now) c.args.room (length c.args.work.now) c.args.buffer ≡ true = sym c.sizes_fit.ensures ∙ not-false _ c.if-not-sizes_fit.false-raw in
-    let sizes : Fit c.args.code c.args.length (length c.args.symbols.now) c.args.room (length c.args.work.now) c.args.buffer = sizes_fit_out _ _ _ _ _ _ sizes-true in
-    let symbols-fit : length c.args.symbols.now ≤ 864 = omega (arith, sizes.block, block_short c.args.code c.args.length code-lawful sizes.long) in
-    omega (arith, c.see.auto.seen, symbols-fit)
+    let code_lawful : lawful c.args.code ≡ true = sym c.keeps_rules.ensures ∙ not-false _ c.if-not-keeps_rules.false-raw in
+    let sizes_true : sizes_fit c.args.code c.args.length (length c.args.symbols.now) c.args.room (length c.args.work.now) c.args.buffer ≡ true = sym c.sizes_fit.ensures ∙ not-false _ c.if-not-sizes_fit.false-raw in
+    let sizes : Fit c.args.code c.args.length (length c.args.symbols.now) c.args.room (length c.args.work.now) c.args.buffer = sizes_fit_out _ _ _ _ _ _ sizes_true in
+    let symbols_fit : length c.args.symbols.now ≤ 864 = omega (arith, sizes.block, block_short c.args.code c.args.length code_lawful sizes.long) in
+    omega (arith, c.see.auto.seen, symbols_fit)
 
 pub slice_bounds-search-end : goal.slice_bounds-search-end
 slice_bounds-search-end c =
-    let code-lawful : lawful c.args.code ≡ true = sym c.keeps_rules.ensures ∙ not-false _ c.if-not-keeps_rules.false-raw in
-    let sizes-true : sizes_fit c.args.code c.args.length (length c.args.symbols.now) c.args.room (length c.args.work.now) c.args.buffer ≡ true = sym c.sizes_fit.ensures ∙ not-false _ c.if-not-sizes_fit.false-raw in
-    let sizes : Fit c.args.code c.args.length (length c.args.symbols.now) c.args.room (length c.args.work.now) c.args.buffer = sizes_fit_out _ _ _ _ _ _ sizes-true in
-    let symbols-fit : length c.args.symbols.now ≤ 864 = omega (arith, sizes.block, block_short c.args.code c.args.length code-lawful sizes.long) in
+    let code_lawful : lawful c.args.code ≡ true = sym c.keeps_rules.ensures ∙ not-false _ c.if-not-keeps_rules.false-raw in
+    let sizes_true : sizes_fit c.args.code c.args.length (length c.args.symbols.now) c.args.room (length c.args.work.now) c.args.buffer ≡ true = sym c.sizes_fit.ensures ∙ not-false _ c.if-not-sizes_fit.false-raw in
+    let sizes : Fit c.args.code c.args.length (length c.args.symbols.now) c.args.room (length c.args.work.now) c.args.buffer = sizes_fit_out _ _ _ _ _ _ sizes_true in
+    let symbols_fit : length c.args.symbols.now ≤ 864 = omega (arith, sizes.block, block_short c.args.code c.args.length code_lawful sizes.long) in
     let symbols : List ℤ = c.args.symbols.now in
     let part : List ℕ = take (length symbols) c.see.new.seen in
-    let part-packed : part ≡ packed (view symbols) = ap (take (length symbols)) c.see.ensures ∙ see_part symbols _ symbols-fit in
-    let part_length : length part ≡ length symbols = ap length part-packed ∙ length_packed symbols in
+    let part_packed : part ≡ packed (view symbols) = ap (take (length symbols)) c.see.ensures ∙ see_part symbols _ symbols_fit in
+    let part_length : length part ≡ length symbols = ap length part_packed ∙ length_packed symbols in
     sym part_length
 
 pub search-requires-clause-fact_1 : goal.search-requires-clause-fact_1
 search-requires-clause-fact_1 c =
-    let code-lawful : lawful c.args.code ≡ true = sym c.keeps_rules.ensures ∙ not-false _ c.if-not-keeps_rules.false-raw in
-    let sizes-true : sizes_fit c.args.code c.args.length (length c.args.symbols.now) c.args.room (length c.args.work.now) c.args.buffer ≡ true = sym c.sizes_fit.ensures ∙ not-false _ c.if-not-sizes_fit.false-raw in
-    let sizes : Fit c.args.code c.args.length (length c.args.symbols.now) c.args.room (length c.args.work.now) c.args.buffer = sizes_fit_out _ _ _ _ _ _ sizes-true in
-    let symbols-fit : length c.args.symbols.now ≤ 864 = omega (arith, sizes.block, block_short c.args.code c.args.length code-lawful sizes.long) in
+    let code_lawful : lawful c.args.code ≡ true = sym c.keeps_rules.ensures ∙ not-false _ c.if-not-keeps_rules.false-raw in
+    let sizes_true : sizes_fit c.args.code c.args.length (length c.args.symbols.now) c.args.room (length c.args.work.now) c.args.buffer ≡ true = sym c.sizes_fit.ensures ∙ not-false _ c.if-not-sizes_fit.false-raw in
+    let sizes : Fit c.args.code c.args.length (length c.args.symbols.now) c.args.room (length c.args.work.now) c.args.buffer = sizes_fit_out _ _ _ _ _ _ sizes_true in
+    let symbols_fit : length c.args.symbols.now ≤ 864 = omega (arith, sizes.block, block_short c.args.code c.args.length code_lawful sizes.long) in
     let symbols : List ℤ = c.args.symbols.now in
     let part : List ℕ = take (length symbols) c.see.new.seen in
-    let part-packed : part ≡ packed (view symbols) = ap (take (length symbols)) c.see.ensures ∙ see_part symbols _ symbols-fit in
-    let part_length : length part ≡ length symbols = ap length part-packed ∙ length_packed symbols in
-    let sized : Sized c.args.code c.args.length part = let bounds : Bounds c.args.code = lawful_out c.args.code code-lawful in
+    let part_packed : part ≡ packed (view symbols) = ap (take (length symbols)) c.see.ensures ∙ see_part symbols _ symbols_fit in
+    let part_length : length part ≡ length symbols = ap length part_packed ∙ length_packed symbols in
+    let sized : Sized c.args.code c.args.length part = let bounds : Bounds c.args.code = lawful_out c.args.code code_lawful in
     record {
-      code = code-lawful;
+      code = code_lawful;
       long = sizes.long;
       full = omega (arith, bounds.outputs_most, c.well_formed.0.1.1.1.1.0.1.0.1);
       block = part_length ∙ sizes.block;
@@ -78,12 +78,12 @@ search-requires-clause-fact_1 c =
 
 pub returns : goal.returns
 returns c =
-    let code-lawful : lawful c.args.code ≡ true = sym c.keeps_rules.ensures ∙ not-false _ c.if-not-keeps_rules.false-raw in
-    let sizes-true : sizes_fit c.args.code c.args.length (length c.args.symbols.now) c.args.room (length c.args.work.now) c.args.buffer ≡ true = sym c.sizes_fit.ensures ∙ not-false _ c.if-not-sizes_fit.false-raw in
-    let sizes : Fit c.args.code c.args.length (length c.args.symbols.now) c.args.room (length c.args.work.now) c.args.buffer = sizes_fit_out _ _ _ _ _ _ sizes-true in
-    let symbols-fit : length c.args.symbols.now ≤ 864 = omega (arith, sizes.block, block_short c.args.code c.args.length code-lawful sizes.long) in
+    let code_lawful : lawful c.args.code ≡ true = sym c.keeps_rules.ensures ∙ not-false _ c.if-not-keeps_rules.false-raw in
+    let sizes_true : sizes_fit c.args.code c.args.length (length c.args.symbols.now) c.args.room (length c.args.work.now) c.args.buffer ≡ true = sym c.sizes_fit.ensures ∙ not-false _ c.if-not-sizes_fit.false-raw in
+    let sizes : Fit c.args.code c.args.length (length c.args.symbols.now) c.args.room (length c.args.work.now) c.args.buffer = sizes_fit_out _ _ _ _ _ _ sizes_true in
+    let symbols_fit : length c.args.symbols.now ≤ 864 = omega (arith, sizes.block, block_short c.args.code c.args.length code_lawful sizes.long) in
     let symbols : List ℤ = c.args.symbols.now in
     let part : List ℕ = take (length symbols) c.see.new.seen in
-    let part-packed : part ≡ packed (view symbols) = ap (take (length symbols)) c.see.ensures ∙ see_part symbols _ symbols-fit in
-    let part-view : seen_in part ≡ view symbols = ap seen_in part-packed ∙ seen_in_packed symbols in
-    settles_search _ _ _ _ _ _ _ _ code-lawful (seen_in part) part-view _ sizes-true c.search.ensures
+    let part_packed : part ≡ packed (view symbols) = ap (take (length symbols)) c.see.ensures ∙ see_part symbols _ symbols_fit in
+    let part_view : seen_in part ≡ view symbols = ap seen_in part_packed ∙ seen_in_packed symbols in
+    settles_search _ _ _ _ _ _ _ _ code_lawful (seen_in part) part_view _ sizes_true c.search.ensures

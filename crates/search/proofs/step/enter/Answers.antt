@@ -79,8 +79,8 @@ returns-then-brought-known c =
     let place : ℕ = c.find-k.result in
     let found : RowOf arrived.entry.node rows place = subst (RowOf arrived.entry.node rows) (sym c.find-k.ensures) (find_row_is arrived.entry.node rows) in
     let known : place < length rows = omega (arith, found.within, long, c.if-k-n.false) in
-    let cost-read : c.row-known.result.cost ≡ cost_at rows place = ap (λ (r : Row). r.entry.cost) c.row-known.ensures.0 in
-    tries c.args.room c.args.work.now _ rows arrived place c.find-k.ensures (entered_lowers cap c.args.room rows arrived place known (omega (arith, cost-read, c.if-brought-known.true)))
+    let cost_read : c.row-known.result.cost ≡ cost_at rows place = ap (λ (r : Row). r.entry.cost) c.row-known.ensures.0 in
+    tries c.args.room c.args.work.now _ rows arrived place c.find-k.ensures (entered_lowers cap c.args.room rows arrived place known (omega (arith, cost_read, c.if-brought-known.true)))
     (record { shows = c.lower.ensures; most = c.requires.fact_1.most; full = refl })
 
 pub join-requires-clause-fact_2 : goal.join-requires-clause-fact_2
@@ -101,8 +101,8 @@ returns-then-brought-known-2 c =
     let place : ℕ = c.find-k.result in
     let found : RowOf arrived.entry.node rows place = subst (RowOf arrived.entry.node rows) (sym c.find-k.ensures) (find_row_is arrived.entry.node rows) in
     let known : place < length rows = omega (arith, found.within, long, c.if-k-n.false) in
-    let cost-read : c.row-known.result.cost ≡ cost_at rows place = ap (λ (r : Row). r.entry.cost) c.row-known.ensures.0 in
-    tries c.args.room c.args.work.now _ rows arrived place c.find-k.ensures (entered_joins cap c.args.room rows arrived place known (c.if-brought-known-2.true ∙ cost-read))
+    let cost_read : c.row-known.result.cost ≡ cost_at rows place = ap (λ (r : Row). r.entry.cost) c.row-known.ensures.0 in
+    tries c.args.room c.args.work.now _ rows arrived place c.find-k.ensures (entered_joins cap c.args.room rows arrived place known (c.if-brought-known-2.true ∙ cost_read))
     (record { shows = c.join.ensures; most = c.requires.fact_1.most; full = refl })
 
 pub returns : goal.returns
@@ -113,8 +113,8 @@ returns c =
     let place : ℕ = c.find-k.result in
     let found : RowOf arrived.entry.node rows place = subst (RowOf arrived.entry.node rows) (sym c.find-k.ensures) (find_row_is arrived.entry.node rows) in
     let known : place < length rows = omega (arith, found.within, long, c.if-k-n.false) in
-    let cost-read : c.row-known.result.cost ≡ cost_at rows place = ap (λ (r : Row). r.entry.cost) c.row-known.ensures.0 in
+    let cost_read : c.row-known.result.cost ≡ cost_at rows place = ap (λ (r : Row). r.entry.cost) c.row-known.ensures.0 in
     let unchanged : Shows c.args.work.now c.args.work.now c.args.n rows = record { stored = c.requires.fact_1.stored; rows = refl; kept = refl } in
-    let dearer : cost_at rows place < arrived.entry.cost = omega (arith, cost-read, c.if-brought-known.false, c.if-brought-known-2.false) in
+    let dearer : cost_at rows place < arrived.entry.cost = omega (arith, cost_read, c.if-brought-known.false, c.if-brought-known-2.false) in
     tries c.args.room c.args.work.now _ rows arrived place c.find-k.ensures (entered_leaves cap c.args.room rows arrived place known dearer)
     (record { shows = unchanged; most = c.requires.fact_1.most; full = refl })

@@ -32,14 +32,14 @@ loop-input-init c =
     ∙ ap (λ (r : Row). allowed trellis r.entry.node.level) c.row-from.ensures.0 in
     let h = c.close.ensures in
     let C = set_changed opening c.args.i (shut (row_at opening c.args.i)) inside in
-    let open-allows : c.allowed-inputs.result ≡ allowed trellis (node_at (closed opening c.args.i) c.args.i).level =
+    let open_allows : c.allowed-inputs.result ≡ allowed trellis (node_at (closed opening c.args.i) c.args.i).level =
     allows ∙ ap (λ (r : Row). allowed trellis r.entry.node.level) (sym C.here) in
     record {
       roomy = record { stored = h.stored; most = c.requires.fact_1.roomy.most; lent = lent_on h.kept c.requires.fact_1.roomy.lent };
       kept = refl;
       fanning =
           subst (λ (l : List Row). Fanning trellis cap c.args.room c.args.i c.allowed-inputs.result l l 0) (sym h.rows)
-          (fanning_start (safe_closed (omega arith) c.requires.fact_1.safe inside) C.within open-allows);
+          (fanning_start (safe_closed (omega arith) c.requires.fact_1.safe inside) C.within open_allows);
     }
 
 pub relax-tally-requires-clause-steppable : goal.relax-tally-requires-clause-steppable

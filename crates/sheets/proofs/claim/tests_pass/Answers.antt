@@ -21,9 +21,9 @@ use Rattle.sheets.proofs.claim.tests_pass.Goals as goal
 pub path_listed-requires : goal.path_listed-requires
 path_listed-requires c =
     let part : List ℕ = let bytes = c.args.sheet.now in take (length bytes - c.entries_place-place.result) (drop c.entries_place-place.result bytes) in
-    let part-is : part ≡ drop (entries_place c.args.length) c.args.sheet.now = let bytes = c.args.sheet.now in part_rest bytes c.entries_place-place.result ∙ ap (λ (k : ℕ). drop k bytes) c.entries_place-place.ensures in
+    let part_is : part ≡ drop (entries_place c.args.length) c.args.sheet.now = let bytes = c.args.sheet.now in part_rest bytes c.entries_place-place.result ∙ ap (λ (k : ℕ). drop k bytes) c.entries_place-place.ensures in
     let branching : Branching c.args.code c.args.length c.args.seen.now part c.args.states.now c.args.metrics.now = subst (λ (l : List ℕ). Branching c.args.code c.args.length c.args.seen.now l c.args.states.now c.args.metrics.now)
-    (sym part-is) c.requires.branching in
+    (sym part_is) c.requires.branching in
     let b = branching in
     record {
       ordered = b.ordered;
@@ -38,8 +38,8 @@ unfolding tested
 returns-then-not-path_listed c =
     let top : ℕ = c.args.length + c.args.code.memory in
     let part : List ℕ = let bytes = c.args.sheet.now in take (length bytes - c.entries_place-place.result) (drop c.entries_place-place.result bytes) in
-    let part-is : part ≡ drop (entries_place c.args.length) c.args.sheet.now = let bytes = c.args.sheet.now in part_rest bytes c.entries_place-place.result ∙ ap (λ (k : ℕ). drop k bytes) c.entries_place-place.ensures in
-    let listed : entries_in part ≡ (sheet_read c.args.length c.args.sheet.now).entries = ap entries_in part-is ∙ entries_in_sheet c.args.length c.args.sheet.now c.requires.size in
+    let part_is : part ≡ drop (entries_place c.args.length) c.args.sheet.now = let bytes = c.args.sheet.now in part_rest bytes c.entries_place-place.result ∙ ap (λ (k : ℕ). drop k bytes) c.entries_place-place.ensures in
+    let listed : entries_in part ≡ (sheet_read c.args.length c.args.sheet.now).entries = ap entries_in part_is ∙ entries_in_sheet c.args.length c.args.sheet.now c.requires.size in
     let path_test : c.path_listed.result ≡ all (on_path (sheet_read c.args.length c.args.sheet.now).entries c.args.states.now c.args.metrics.now) (series (top + 1) (λ j. j)) = c.path_listed.ensures ∙ ap (λ (es : List Entry). all (on_path es c.args.states.now c.args.metrics.now) (series (top + 1) (λ j. j))) listed in
     sym (first_fails _ _ _ (sym path_test ∙ not-true c.path_listed.result c.if-not-path_listed.true-raw))
 
@@ -48,8 +48,8 @@ unfolding sheet_read tested
 returns-then-metrics-top c =
     let top : ℕ = c.args.length + c.args.code.memory in
     let part : List ℕ = let bytes = c.args.sheet.now in take (length bytes - c.entries_place-place.result) (drop c.entries_place-place.result bytes) in
-    let part-is : part ≡ drop (entries_place c.args.length) c.args.sheet.now = let bytes = c.args.sheet.now in part_rest bytes c.entries_place-place.result ∙ ap (λ (k : ℕ). drop k bytes) c.entries_place-place.ensures in
-    let listed : entries_in part ≡ (sheet_read c.args.length c.args.sheet.now).entries = ap entries_in part-is ∙ entries_in_sheet c.args.length c.args.sheet.now c.requires.size in
+    let part_is : part ≡ drop (entries_place c.args.length) c.args.sheet.now = let bytes = c.args.sheet.now in part_rest bytes c.entries_place-place.result ∙ ap (λ (k : ℕ). drop k bytes) c.entries_place-place.ensures in
+    let listed : entries_in part ≡ (sheet_read c.args.length c.args.sheet.now).entries = ap entries_in part_is ∙ entries_in_sheet c.args.length c.args.sheet.now c.requires.size in
     let path_test : c.path_listed.result ≡ all (on_path (sheet_read c.args.length c.args.sheet.now).entries c.args.states.now c.args.metrics.now) (series (top + 1) (λ j. j)) = c.path_listed.ensures ∙ ap (λ (es : List Entry). all (on_path es c.args.states.now c.args.metrics.now) (series (top + 1) (λ j. j))) listed in
     sym (second_fails _ _ _ (sym path_test ∙ not-false c.path_listed.result c.if-not-path_listed.false-raw)
     (ap (eqb (get_or c.args.metrics.now top 0))
@@ -61,8 +61,8 @@ returns c =
     let trellis : Trellis = trellis_of c.args.code c.args.length (seen_in c.args.seen.now) in
     let top : ℕ = c.args.length + c.args.code.memory in
     let part : List ℕ = let bytes = c.args.sheet.now in take (length bytes - c.entries_place-place.result) (drop c.entries_place-place.result bytes) in
-    let part-is : part ≡ drop (entries_place c.args.length) c.args.sheet.now = let bytes = c.args.sheet.now in part_rest bytes c.entries_place-place.result ∙ ap (λ (k : ℕ). drop k bytes) c.entries_place-place.ensures in
-    let listed : entries_in part ≡ (sheet_read c.args.length c.args.sheet.now).entries = ap entries_in part-is ∙ entries_in_sheet c.args.length c.args.sheet.now c.requires.size in
+    let part_is : part ≡ drop (entries_place c.args.length) c.args.sheet.now = let bytes = c.args.sheet.now in part_rest bytes c.entries_place-place.result ∙ ap (λ (k : ℕ). drop k bytes) c.entries_place-place.ensures in
+    let listed : entries_in part ≡ (sheet_read c.args.length c.args.sheet.now).entries = ap entries_in part_is ∙ entries_in_sheet c.args.length c.args.sheet.now c.requires.size in
     let path_test : c.path_listed.result ≡ all (on_path (sheet_read c.args.length c.args.sheet.now).entries c.args.states.now c.args.metrics.now) (series (top + 1) (λ j. j)) = c.path_listed.ensures ∙ ap (λ (es : List Entry). all (on_path es c.args.states.now c.args.metrics.now) (series (top + 1) (λ j. j))) listed in
     c.entries_pass.ensures
     ∙ (λ z. all (all_passing trellis (listed z) (c.four_bytes-metric.ensures z) c.args.states.now c.args.metrics.now) (listed z))

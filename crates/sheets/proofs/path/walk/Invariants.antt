@@ -11,11 +11,11 @@ use Rattle.sheets.proofs.Walks.{Walking}
 use Rattle.sheets.proofs.path.walk.Given as goal
 
 -- so many levels are walked
-pub record Going (t : Trellis) (message : List ℕ) (bound : ℕ) (first-states first-metrics : List ℕ) (top : ℕ) (states metrics : List ℕ)
+pub record Going (t : Trellis) (message : List ℕ) (bound : ℕ) (first_states first_metrics : List ℕ) (top : ℕ) (states metrics : List ℕ)
     (state metric level : ℕ) : Type 0 where
   pub within : level ≤ top
-  pub states_kept : length states ≡ length first-states
-  pub metrics_kept : length metrics ≡ length first-metrics
+  pub states_kept : length states ≡ length first_states
+  pub metrics_kept : length metrics ≡ length first_metrics
   pub walking : Walking t message greatest_price bound states metrics state metric level
 
 abbrev pub invariant-loop-level : goal.invariant-loop-level

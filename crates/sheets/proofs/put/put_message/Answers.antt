@@ -13,13 +13,13 @@ use Rattle.sheets.proofs.put.put_message.Goals as goal
 pub loop-j-preserved : goal.loop-j-preserved
 loop-j-preserved c =
     let bytes : List ℕ = message_bytes (length c.args.message.now) c.args.message.now in
-    let bytes-length : length bytes ≡ message_size (length c.args.message.now) = length_series (message_size (length c.args.message.now)) (octet c.args.message.now) in
+    let bytes_length : length bytes ≡ message_size (length c.args.message.now) = length_series (message_size (length c.args.message.now)) (octet c.args.message.now) in
     let written : c.octet.result ≡ get_or bytes c.loop-j.j 0 = c.octet.ensures ∙ sym (get_or_series (message_size (length c.args.message.now)) (octet c.args.message.now) c.loop-j.j 0
     c.loop-j-test.true) in
-    rw written (filling_next 0 (omega (arith, bytes-length, c.loop-j-test.true)) c.loop-j.invariant)
+    rw written (filling_next 0 (omega (arith, bytes_length, c.loop-j-test.true)) c.loop-j.invariant)
 
 pub returns : goal.returns
 returns c =
     let bytes : List ℕ = message_bytes (length c.args.message.now) c.args.message.now in
-    let bytes-length : length bytes ≡ message_size (length c.args.message.now) = length_series (message_size (length c.args.message.now)) (octet c.args.message.now) in
-    filling_done (omega (arith, bytes-length, c.loop-j-test.false)) c.loop-j.invariant
+    let bytes_length : length bytes ≡ message_size (length c.args.message.now) = length_series (message_size (length c.args.message.now)) (octet c.args.message.now) in
+    filling_done (omega (arith, bytes_length, c.loop-j-test.false)) c.loop-j.invariant
