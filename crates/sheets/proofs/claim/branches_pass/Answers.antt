@@ -39,7 +39,7 @@ price-requires c =
     ∙ all_within (in_trellis c.args.code c.args.length) (entries_in entries) no_entry c.args.i
     (omega (arith, length_entries_in entries, c.requires.1)) c.requires.0.inside) in
     let state_is : c.state-own.result ≡ own.node.state = c.state-own.ensures.0 in
-    let allowed_input : c.loop-input.input - 1 < allowed trellis c.level-from.result = omega (arith, c.loop-input-test.true, c.loop-input.invariant.within, c.allowed_input.ensures (seen_in c.args.seen.now)) in
+    let allowed_input : c.loop-input.input - 1 < allowed trellis c.level-from.result = omega (arith, c.loop-input-test.true, c.loop-input.invariant.within, c.allowed-input.ensures (seen_in c.args.seen.now)) in
     let state_below : c.state-own.result < 2 ^ c.args.code.memory = omega (arith, state_is, inside.1) in
     priceable c.args.code c.args.length (length c.args.seen.now) c.level-from.result c.state-own.result
     (c.loop-input.input - 1) (seen_in c.args.seen.now) c.requires.0.code c.requires.0.full state_below allowed_input
@@ -55,7 +55,7 @@ next-entered-requires c =
     ∙ all_within (in_trellis c.args.code c.args.length) (entries_in entries) no_entry c.args.i
     (omega (arith, length_entries_in entries, c.requires.1)) c.requires.0.inside) in
     let state_is : c.state-own.result ≡ own.node.state = c.state-own.ensures.0 in
-    let allowed_input : c.loop-input.input - 1 < allowed trellis c.level-from.result = omega (arith, c.loop-input-test.true, c.loop-input.invariant.within, c.allowed_input.ensures (seen_in c.args.seen.now)) in
+    let allowed_input : c.loop-input.input - 1 < allowed trellis c.level-from.result = omega (arith, c.loop-input-test.true, c.loop-input.invariant.within, c.allowed-input.ensures (seen_in c.args.seen.now)) in
     let bit : c.loop-input.input - 1 ≤ 1 = input_bit c.args.code c.args.length (seen_in c.args.seen.now) c.level-from.result (c.loop-input.input - 1) allowed_input in
     let state_below : c.state-own.result < 2 ^ c.args.code.memory = omega (arith, state_is, inside.1) in
     (bounds.memory_most, state_below, bit)
@@ -64,7 +64,7 @@ pub goes_on-requires : goal.goes_on-requires
 goes_on-requires c =
     let trellis : Trellis = trellis_of c.args.code c.args.length (seen_in c.args.seen.now) in
     let bounds : Bounds c.args.code = lawful_out c.args.code c.requires.0.code in
-    let allowed_input : c.loop-input.input - 1 < allowed trellis c.level-from.result = omega (arith, c.loop-input-test.true, c.loop-input.invariant.within, c.allowed_input.ensures (seen_in c.args.seen.now)) in
+    let allowed_input : c.loop-input.input - 1 < allowed trellis c.level-from.result = omega (arith, c.loop-input-test.true, c.loop-input.invariant.within, c.allowed-input.ensures (seen_in c.args.seen.now)) in
     let level_left : c.level-from.result < c.args.length + c.args.code.memory = allowed_top trellis c.level-from.result (c.loop-input.input - 1) allowed_input in
     record {
       ordered = c.requires.0.ordered;
@@ -86,14 +86,14 @@ returns-then-not-goes_on c =
     (c.price.ensures.0 ∙ ap₂ (λ (x y : ℕ). branch_cost c.args.code (seen_in c.args.seen.now) x y b) level_is state_is))
     (node_path (add-one c.level-from.result ∙ ap suc level_is) (c.next-entered.ensures.0 ∙ ap (next_state c.args.code.memory b) state_is)) in
     let first_test : c.goes_on.result ≡ onward (entries_in c.args.entries.now) c.args.metric (onto trellis own (c.loop-input.input - 1)) = c.goes_on.ensures ∙ ap (onward (entries_in c.args.entries.now) c.args.metric) arrives in
-    let turned : all test (below c.allowed_input.result) ≡ test (c.loop-input.input - 1) && all test (below (c.loop-input.input - 1)) = sym c.loop-input.invariant.rest ∙ below_first test c.loop-input.input c.loop-input-test.true in
-    let counted : all_passing trellis (entries_in c.args.entries.now) c.args.metric c.args.states.now c.args.metrics.now own ≡ all test (below c.allowed_input.result) = ap (λ (n : ℕ). all test (below n)) (ap (allowed trellis) (sym level_is) ∙ sym (c.allowed_input.ensures (seen_in c.args.seen.now))) in
+    let turned : all test (below c.allowed-input.result) ≡ test (c.loop-input.input - 1) && all test (below (c.loop-input.input - 1)) = sym c.loop-input.invariant.rest ∙ below_first test c.loop-input.input c.loop-input-test.true in
+    let counted : all_passing trellis (entries_in c.args.entries.now) c.args.metric c.args.states.now c.args.metrics.now own ≡ all test (below c.allowed-input.result) = ap (λ (n : ℕ). all test (below n)) (ap (allowed trellis) (sym level_is) ∙ sym (c.allowed-input.ensures (seen_in c.args.seen.now))) in
     sym (counted ∙ turned ∙ first_fails _ _ _ (sym first_test ∙ not-true c.goes_on.result c.if-not-goes_on.true-raw))
 
 pub stays_clear-requires : goal.stays_clear-requires
 stays_clear-requires c =
     let trellis : Trellis = trellis_of c.args.code c.args.length (seen_in c.args.seen.now) in
-    let allowed_input : c.loop-input.input - 1 < allowed trellis c.level-from.result = omega (arith, c.loop-input-test.true, c.loop-input.invariant.within, c.allowed_input.ensures (seen_in c.args.seen.now)) in
+    let allowed_input : c.loop-input.input - 1 < allowed trellis c.level-from.result = omega (arith, c.loop-input-test.true, c.loop-input.invariant.within, c.allowed-input.ensures (seen_in c.args.seen.now)) in
     let level_left : c.level-from.result < c.args.length + c.args.code.memory = allowed_top trellis c.level-from.result (c.loop-input.input - 1) allowed_input in
     (omega (arith, level_left, c.requires.0.room), omega (arith, level_left, c.requires.0.more))
 
@@ -113,8 +113,8 @@ returns-then-not-stays_clear c =
     let first_test : c.goes_on.result ≡ onward (entries_in c.args.entries.now) c.args.metric (onto trellis own (c.loop-input.input - 1)) = c.goes_on.ensures ∙ ap (onward (entries_in c.args.entries.now) c.args.metric) arrives in
     let second_test : c.stays_clear.result ≡ clear c.args.states.now c.args.metrics.now own.node.level own.node.state (onto trellis own (c.loop-input.input - 1)).node.state (onto trellis own (c.loop-input.input - 1)).cost = c.stays_clear.ensures
     ∙ (λ z. clear c.args.states.now c.args.metrics.now (level_is z) (state_is z) (arrives z).node.state (arrives z).cost) in
-    let turned : all test (below c.allowed_input.result) ≡ test (c.loop-input.input - 1) && all test (below (c.loop-input.input - 1)) = sym c.loop-input.invariant.rest ∙ below_first test c.loop-input.input c.loop-input-test.true in
-    let counted : all_passing trellis (entries_in c.args.entries.now) c.args.metric c.args.states.now c.args.metrics.now own ≡ all test (below c.allowed_input.result) = ap (λ (n : ℕ). all test (below n)) (ap (allowed trellis) (sym level_is) ∙ sym (c.allowed_input.ensures (seen_in c.args.seen.now))) in
+    let turned : all test (below c.allowed-input.result) ≡ test (c.loop-input.input - 1) && all test (below (c.loop-input.input - 1)) = sym c.loop-input.invariant.rest ∙ below_first test c.loop-input.input c.loop-input-test.true in
+    let counted : all_passing trellis (entries_in c.args.entries.now) c.args.metric c.args.states.now c.args.metrics.now own ≡ all test (below c.allowed-input.result) = ap (λ (n : ℕ). all test (below n)) (ap (allowed trellis) (sym level_is) ∙ sym (c.allowed-input.ensures (seen_in c.args.seen.now))) in
     sym (counted
     ∙ turned
     ∙ second_fails _ _ _ (sym first_test ∙ not-false c.goes_on.result c.if-not-goes_on.false-raw)
@@ -135,7 +135,7 @@ loop-input-preserved c =
     let first_test : c.goes_on.result ≡ onward (entries_in c.args.entries.now) c.args.metric (onto trellis own (c.loop-input.input - 1)) = c.goes_on.ensures ∙ ap (onward (entries_in c.args.entries.now) c.args.metric) arrives in
     let second_test : c.stays_clear.result ≡ clear c.args.states.now c.args.metrics.now own.node.level own.node.state (onto trellis own (c.loop-input.input - 1)).node.state (onto trellis own (c.loop-input.input - 1)).cost = c.stays_clear.ensures
     ∙ (λ z. clear c.args.states.now c.args.metrics.now (level_is z) (state_is z) (arrives z).node.state (arrives z).cost) in
-    let turned : all test (below c.allowed_input.result) ≡ test (c.loop-input.input - 1) && all test (below (c.loop-input.input - 1)) = sym c.loop-input.invariant.rest ∙ below_first test c.loop-input.input c.loop-input-test.true in
+    let turned : all test (below c.allowed-input.result) ≡ test (c.loop-input.input - 1) && all test (below (c.loop-input.input - 1)) = sym c.loop-input.invariant.rest ∙ below_first test c.loop-input.input c.loop-input-test.true in
     record {
       within = omega (arith, c.loop-input.invariant.within);
       rest =
@@ -151,5 +151,5 @@ returns c =
     let own : Entry = entry_at c.args.entries.now (8 * c.args.i) in
     let test : ℕ → Bool = passing trellis (entries_in c.args.entries.now) c.args.metric c.args.states.now c.args.metrics.now own in
     let level_is : c.level-from.result ≡ own.node.level = c.level-from.ensures.0 in
-    let counted : all_passing trellis (entries_in c.args.entries.now) c.args.metric c.args.states.now c.args.metrics.now own ≡ all test (below c.allowed_input.result) = ap (λ (n : ℕ). all test (below n)) (ap (allowed trellis) (sym level_is) ∙ sym (c.allowed_input.ensures (seen_in c.args.seen.now))) in
+    let counted : all_passing trellis (entries_in c.args.entries.now) c.args.metric c.args.states.now c.args.metrics.now own ≡ all test (below c.allowed-input.result) = ap (λ (n : ℕ). all test (below n)) (ap (allowed trellis) (sym level_is) ∙ sym (c.allowed-input.ensures (seen_in c.args.seen.now))) in
     sym (counted ∙ sym c.loop-input.invariant.rest ∙ below_none test c.loop-input.input c.loop-input-test.false)
