@@ -2,4 +2,5 @@
 fn main() {
     let root = std::env::var("CARGO_MANIFEST_DIR").expect("cargo names the crate's folder");
     println!("cargo:rustc-link-search=native={root}/../target/staticlib");
+    println!("cargo:rerun-if-changed={root}/../target/staticlib");
 }

@@ -4,68 +4,42 @@
 
 mod say;
 
-ghost use Rattle.std.specs.Prelude.{◌≡◌, length};
-
-use codes::table::house;
-use search::decoder::{Decoded, decode};
+use codes::table::{Code, house};
+use search::decoder::decode;
 use std::io;
+
+// More symbols than the longest block has, so that what is a little too long is refused by the decoder.
+const SYMBOLS: usize = 1020;
+
+// The row, L, the symbols, and a byte more, by which a longer block shows.
+const INPUT: usize = 3 + SYMBOLS + 1;
 
 // The room that working memory is lent for: 48 KiB.
 const ROOM: usize = 2048;
 
+const WORDS: usize = 3 * ROOM;
+
 // As many steps as a call can be allowed.
-const ALLOWANCE: u32 = 4294967295;
-
-fn input() -> [u8; 1024]
-    ensures { 1024 ≡ length result }
-{
-    [0; 1024]
-}
-
-fn block() -> [i8; 1024]
-    ensures { 1024 ≡ length result }
-{
-    [0; 1024]
-}
-
-fn memory() -> [u64; 6144]
-    ensures { 6144 ≡ length result }
-{
-    [0; 6144]
-}
+const ALLOWANCE: u32 = u32::MAX;
 
 fn main(rt: HostRuntime) -> io::Result<()> {
-    let mut bytes = input();
-    let got = fields::read_full(&mut rt.reader(), &mut bytes)?;
-    if got < 3 {
+    let mut input = [0; INPUT];
+    let block = fields::read_full(&mut rt.reader(), &mut input)?;
+    let [row, low, high, symbols @ ..] = block else {
         return say::too_short(&rt);
-    }
-    if 1024 <= got {
+    };
+    let mut received = [0; SYMBOLS];
+    let received = fields::symbols(symbols, &mut received);
+    if received.len() < symbols.len() {
         return say::too_long(&rt);
     }
-    announced(&rt, &bytes[..got])
+    let bits = u16::from_le_bytes([*low, *high]);
+    decoded(&rt, house(usize::from(*row)), usize::from(bits), received)
 }
 
-// The block of a row, an L and symbols.
-fn announced(rt: &impl Print, bytes: &[u8]) -> io::Result<()> {
-    if bytes.len() < 3 {
-        return Ok(());
-    }
-    let row = fields::byte(bytes, 0);
-    let bits = fields::short(bytes, 1);
-    let mut received = block();
-    let count = bytes.len() - 3;
-    fields::symbols(&bytes[3..], &mut received);
-    if count <= 1024 {
-        decoded(rt, row, bits, &received[..count])?;
-    }
-    Ok(())
-}
-
-fn decoded(rt: &impl Print, row: usize, bits: usize, symbols: &[i8]) -> io::Result<()> {
-    let code = house(row);
-    let mut work = memory();
-    let mut message = input();
+fn decoded(rt: &impl Print, code: Code, bits: usize, symbols: &[i8]) -> io::Result<()> {
+    let mut work = [0; WORDS];
+    let mut message = [0; 1024];
     say::block(rt, code, bits, symbols.len())?;
     let answer = decode(
         code,
@@ -76,11 +50,11 @@ fn decoded(rt: &impl Print, row: usize, bits: usize, symbols: &[i8]) -> io::Resu
         &mut work,
         &mut message,
     );
-    let Decoded::Done { metric, steps } = answer else {
-        return say::refused(rt, answer);
+    let Ok(found) = answer else {
+        return say::refused(rt, answer.unwrap_err());
     };
-    if bits <= 1024 {
-        say::message(rt, &message[..bits])?;
+    if let Some(message) = message.get(..bits) {
+        say::message(rt, message)?;
     }
-    say::found(rt, metric, steps)
+    say::found(rt, found)
 }

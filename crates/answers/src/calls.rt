@@ -1,237 +1,121 @@
 // A record's call, with the buffers that it asks for, and its answer line. Output buffers are filled before, so that a stray byte shows
-// in their checksum. Each public function says whether the record fits the buffers that stand here: second/FORMAT.md bounds them.
-use crate::lines;
-use crate::record::{
-    ALLOWANCE, COUNT, FORM, GAIN, GENERATORS, LENGTH, MEMORY, OFFSET, OUTPUT, OUTPUTS, PAYLOAD,
-    ROOM, SHEET, SHEET_COUNT, THRESHOLD, WORDS,
-};
-use fields::{float, number, readings, size, symbols};
+// in their checksum. second/FORMAT.md bounds what stands here: a record that asks for more stops the program.
+use crate::lines::{FrontLine, Line, checksum};
+use crate::record::{Kind, Record};
+use crate::stop::Stop;
+use fields::symbols;
 use plumtassel::{
-    Code, FrontEnd, plumtassel_check, plumtassel_decode, plumtassel_decode_sheet,
-    plumtassel_encode, plumtassel_front,
+    plumtassel_check, plumtassel_decode, plumtassel_decode_sheet, plumtassel_encode,
+    plumtassel_front,
 };
-use std::io;
+use std::num::f32_from_bits_with_nan;
 
 const UNTOUCHED: u8 = 0xA5;
 
-const UNTOUCHED_SYMBOL: i8 = -0x5B;
+const SYMBOLS: usize = 1024;
 
-const MOST_SYMBOLS: usize = 1024;
+const MESSAGE: usize = 256;
 
-const MOST_MESSAGE: usize = 256;
+const WORDS: usize = 8192;
 
-const MOST_WORDS: usize = 8192;
+const SHEET: usize = 32768;
 
-const MOST_SHEET: usize = 32768;
-
-// ---- kind 1
-
-pub fn encode(rt: &impl Print, record: &[u8]) -> io::Result<bool> {
-    let end = PAYLOAD + size(record, COUNT);
-    let length = size(record, OUTPUT);
-    if record.len() < end {
-        return Ok(false);
+pub fn answer(rt: &impl Print, record: &Record) -> Result<(), Stop> {
+    match record.kind {
+        Kind::Encode => println!(rt; "{}", encode(record)?)?,
+        Kind::Decode => println!(rt; "{}", decode(record)?)?,
+        Kind::DecodeSheet => {
+            let (line, sheet) = decode_sheet(record)?;
+            println!(rt; "{line} {sheet}")?
+        }
+        Kind::Check => println!(rt; "{}", check(record)?)?,
+        Kind::Front => println!(rt; "{}", front(record)?)?,
     }
-    if MOST_SYMBOLS < length {
-        return Ok(false);
-    }
-    let mut out = [UNTOUCHED; MOST_SYMBOLS];
-    encode_into(rt, record, &record[PAYLOAD..end], &mut out[..length])?;
-    Ok(true)
+    Ok(())
 }
 
-fn encode_into(rt: &impl Print, record: &[u8], message: &[u8], out: &mut [u8]) -> io::Result<()> {
-    let told = plumtassel_encode(code(record), message, &mut *out);
-    lines::answer(rt, 1, told, out)
+// The part of a buffer that a record asks for.
+fn part<T>(buffer: &mut [T], length: usize) -> Result<&mut [T], Stop> {
+    buffer.get_mut(..length).ok_or(Stop::Bounds)
 }
 
-fn code(record: &[u8]) -> Code {
-    let generators = [
-        number(record, GENERATORS),
-        number(record, GENERATORS + 4),
-        number(record, GENERATORS + 8),
-        number(record, GENERATORS + 12),
-    ];
-    Code {
-        outputs: number(record, OUTPUTS),
-        memory: number(record, MEMORY),
-        generators,
+// The symbols that a record holds.
+fn received_by<'a>(record: &Record, room: &'a mut [i8]) -> Result<&'a [i8], Stop> {
+    let received = symbols(record.payload, room);
+    if received.len() < record.payload.len() {
+        return Err(Stop::Bounds);
     }
+    Ok(received)
 }
 
-// ---- kinds 2 to 4
-
-pub fn of_block(rt: &impl Print, record: &[u8], kind: u32) -> io::Result<bool> {
-    let count = size(record, COUNT);
-    let end = PAYLOAD + count;
-    if record.len() < end {
-        return Ok(false);
-    }
-    if MOST_SYMBOLS < count {
-        return Ok(false);
-    }
-    let mut received = [0i8; MOST_SYMBOLS];
-    symbols(&record[PAYLOAD..end], &mut received);
-    if kind == 2 {
-        return decode(rt, record, &received[..count]);
-    }
-    if kind == 3 {
-        return decode_sheet(rt, record, &received[..count]);
-    }
-    check(rt, record, &received[..count], &record[end..])
+fn encode(record: &Record) -> Result<Line, Stop> {
+    let mut out = [UNTOUCHED; SYMBOLS];
+    let out = part(&mut out, record.output)?;
+    let told = plumtassel_encode(record.code, record.payload, out);
+    Ok(Line::new(record.kind, told, out))
 }
 
-fn decode(rt: &impl Print, record: &[u8], received: &[i8]) -> io::Result<bool> {
-    let words = size(record, WORDS);
-    let length = size(record, OUTPUT);
-    if MOST_WORDS < words {
-        return Ok(false);
-    }
-    if MOST_MESSAGE < length {
-        return Ok(false);
-    }
-    let mut work = [0u64; MOST_WORDS];
-    let mut message = [UNTOUCHED; MOST_MESSAGE];
-    decode_into(
-        rt,
-        record,
-        received,
-        &mut work[..words],
-        &mut message[..length],
-    )?;
-    Ok(true)
-}
-
-fn decode_into(
-    rt: &impl Print,
-    record: &[u8],
-    received: &[i8],
-    work: &mut [u64],
-    message: &mut [u8],
-) -> io::Result<()> {
+fn decode(record: &Record) -> Result<Line, Stop> {
+    let mut received = [0; SYMBOLS];
+    let received = received_by(record, &mut received)?;
+    let mut work = [0; WORDS];
+    let mut message = [UNTOUCHED; MESSAGE];
+    let message = part(&mut message, record.output)?;
     let told = plumtassel_decode(
-        code(record),
-        size(record, LENGTH),
+        record.code,
+        record.length,
         received,
-        size(record, ROOM),
-        number(record, ALLOWANCE),
-        work,
-        &mut *message,
+        record.room,
+        record.allowance,
+        part(&mut work, record.words)?,
+        message,
     );
-    lines::answer(rt, 2, told, message)
+    Ok(Line::new(record.kind, told, message))
 }
 
-fn decode_sheet(rt: &impl Print, record: &[u8], received: &[i8]) -> io::Result<bool> {
-    let words = size(record, WORDS);
-    let length = size(record, OUTPUT);
-    let sheet_length = size(record, SHEET);
-    if MOST_WORDS < words {
-        return Ok(false);
-    }
-    if MOST_MESSAGE < length {
-        return Ok(false);
-    }
-    if MOST_SHEET < sheet_length {
-        return Ok(false);
-    }
-    let mut work = [0u64; MOST_WORDS];
-    let mut message = [UNTOUCHED; MOST_MESSAGE];
-    let mut sheet = [UNTOUCHED; MOST_SHEET];
-    decode_sheet_into(
-        rt,
-        record,
-        received,
-        &mut work[..words],
-        &mut message[..length],
-        &mut sheet[..sheet_length],
-    )?;
-    Ok(true)
-}
-
-fn decode_sheet_into(
-    rt: &impl Print,
-    record: &[u8],
-    received: &[i8],
-    work: &mut [u64],
-    message: &mut [u8],
-    sheet: &mut [u8],
-) -> io::Result<()> {
+// The line, and the checksum of the sheet's buffer.
+fn decode_sheet(record: &Record) -> Result<(Line, u32), Stop> {
+    let mut received = [0; SYMBOLS];
+    let received = received_by(record, &mut received)?;
+    let mut work = [0; WORDS];
+    let mut message = [UNTOUCHED; MESSAGE];
+    let message = part(&mut message, record.output)?;
+    let mut sheet = [UNTOUCHED; SHEET];
+    let sheet = part(&mut sheet, record.sheet)?;
     let told = plumtassel_decode_sheet(
-        code(record),
-        size(record, LENGTH),
+        record.code,
+        record.length,
         received,
-        size(record, ROOM),
-        number(record, ALLOWANCE),
-        work,
-        &mut *message,
-        &mut *sheet,
-    );
-    lines::answer(rt, 3, told, message)?;
-    lines::written(rt, sheet)
-}
-
-fn check(rt: &impl Print, record: &[u8], received: &[i8], sheet: &[u8]) -> io::Result<bool> {
-    let length = size(record, OUTPUT);
-    if sheet.len() != size(record, SHEET_COUNT) {
-        return Ok(false);
-    }
-    if MOST_MESSAGE < length {
-        return Ok(false);
-    }
-    let mut message = [UNTOUCHED; MOST_MESSAGE];
-    check_into(rt, record, received, sheet, &mut message[..length])?;
-    Ok(true)
-}
-
-fn check_into(
-    rt: &impl Print,
-    record: &[u8],
-    received: &[i8],
-    sheet: &[u8],
-    message: &mut [u8],
-) -> io::Result<()> {
-    let told = plumtassel_check(
-        code(record),
-        size(record, LENGTH),
-        received,
+        record.room,
+        record.allowance,
+        part(&mut work, record.words)?,
+        message,
         sheet,
-        &mut *message,
     );
-    lines::answer(rt, 4, told, message)
+    let line = Line::new(record.kind, told, message);
+    Ok((line, checksum(sheet.iter().copied())))
 }
 
-// ---- kind 5
-
-pub fn front(rt: &impl Print, record: &[u8]) -> io::Result<bool> {
-    let count = size(record, COUNT);
-    let length = size(record, OUTPUT);
-    if MOST_SYMBOLS < count {
-        return Ok(false);
+fn check(record: &Record) -> Result<Line, Stop> {
+    if record.behind.len() != record.sheet_count {
+        return Err(Stop::Bounds);
     }
-    let end = PAYLOAD + 4 * count;
-    if record.len() < end {
-        return Ok(false);
-    }
-    if MOST_SYMBOLS < length {
-        return Ok(false);
-    }
-    let mut read = [0.0f32; MOST_SYMBOLS];
-    readings(&record[PAYLOAD..end], &mut read);
-    let mut out = [UNTOUCHED_SYMBOL; MOST_SYMBOLS];
-    front_into(rt, record, &read[..count], &mut out[..length])?;
-    Ok(true)
+    let mut received = [0; SYMBOLS];
+    let received = received_by(record, &mut received)?;
+    let mut message = [UNTOUCHED; MESSAGE];
+    let message = part(&mut message, record.output)?;
+    let told = plumtassel_check(record.code, record.length, received, record.behind, message);
+    Ok(Line::new(record.kind, told, message))
 }
 
-fn front_into(rt: &impl Print, record: &[u8], read: &[f32], out: &mut [i8]) -> io::Result<()> {
-    let told = plumtassel_front(front_end(record), read, &mut *out);
-    lines::report(rt, told, out)
-}
-
-fn front_end(record: &[u8]) -> FrontEnd {
-    FrontEnd {
-        form: number(record, FORM),
-        offset: float(record, OFFSET),
-        gain: float(record, GAIN),
-        threshold: float(record, THRESHOLD),
+fn front(record: &Record) -> Result<FrontLine, Stop> {
+    let mut readings = [0.0; SYMBOLS];
+    let readings = part(&mut readings, record.payload.len() / 4)?;
+    for (reading, bytes) in readings.iter_mut().zip(record.payload.as_chunks().0) {
+        *reading = f32_from_bits_with_nan(u32::from_le_bytes(*bytes));
     }
+    let mut out = [UNTOUCHED.cast_signed(); SYMBOLS];
+    let out = part(&mut out, record.output)?;
+    let told = plumtassel_front(record.front_end(), readings, out);
+    Ok(FrontLine::new(told, out))
 }

@@ -6,16 +6,16 @@
 mod calls;
 mod lines;
 mod record;
+mod stop;
 mod stream;
 
 use std::io;
+use stop::Stop;
 
-// A proved loop has to end, and nothing says that a stream does: the loop counts down from a number that no run uses up.
 fn main(rt: HostRuntime) -> io::Result<()> {
-    let mut input = rt.reader();
-    let mut left = u64::MAX;
-    while 0 < left && stream::answer_next(&rt, &mut input)? {
-        left -= 1;
+    match stream::answered(&rt, &mut rt.reader()) {
+        Ok(()) => Ok(()),
+        Err(Stop::Io(error)) => Err(error),
+        Err(stop) => println!(rt; "{stop}"),
     }
-    Ok(())
 }

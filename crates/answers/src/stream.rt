@@ -1,56 +1,36 @@
 // Records, read one after another.
-use crate::record::{KIND, PAYLOAD};
-use crate::{calls, lines};
-use fields::{number, read_full, size};
-use show::text;
-use std::io;
+use crate::calls;
+use crate::record::{FIELDS, Record};
+use crate::stop::Stop;
+use fields::read_full;
 use std::io::Read;
 
 // A record behind its size: with it, 32,768 bytes.
-const LONGEST_RECORD: usize = 32764;
+const LONGEST: usize = 32764;
 
-// Reads a record and answers it: whether to go on.
-pub fn answer_next(rt: &impl Print, input: &mut impl Read) -> io::Result<bool> {
-    let mut head = [0u8; 4];
-    let got = read_full(input, &mut head)?;
-    if got == 0 {
-        return Ok(false);
+// Answers the records up to the end of the stream. A proved loop has to end, and nothing says that a stream does: the loop has a bound
+// that no run reaches.
+pub fn answered(rt: &impl Print, input: &mut impl Read) -> Result<(), Stop> {
+    for _ in 0..u64::MAX {
+        let mut head = [0; 4];
+        if read_full(input, &mut head)?.is_empty() {
+            break;
+        }
+        answer(rt, input, u32::from_le_bytes(head) as usize)?;
     }
-    let length = size(&head, 0);
-    if length < PAYLOAD {
-        return stopped(rt, b"a record is shorter than its fields\n");
-    }
-    if LONGEST_RECORD < length {
-        return stopped(rt, b"a record is longer than 32,768 bytes\n");
-    }
-    let mut record = [0u8; LONGEST_RECORD];
-    answer_rest(rt, input, &mut record[..length])
+    Ok(())
 }
 
-fn stopped(rt: &impl Print, why: &[u8]) -> io::Result<bool> {
-    text(rt, why)?;
-    Ok(false)
-}
-
-// Fills the record and answers it.
-fn answer_rest(rt: &impl Print, input: &mut impl Read, record: &mut [u8]) -> io::Result<bool> {
-    if read_full(input, &mut *record)? < record.len() {
-        return stopped(rt, b"the stream ends within a record\n");
+// Reads a record of so many bytes and answers it.
+fn answer(rt: &impl Print, input: &mut impl Read, size: usize) -> Result<(), Stop> {
+    if size < FIELDS {
+        return Err(Stop::Short);
     }
-    if !called(rt, record)? {
-        return stopped(rt, b"a record does not fit the bounds of this program\n");
+    let mut bytes = [0; LONGEST];
+    let bytes = bytes.get_mut(..size).ok_or(Stop::Long)?;
+    let bytes = read_full(input, bytes)?;
+    if bytes.len() < size {
+        return Err(Stop::Cut);
     }
-    lines::end(rt)?;
-    Ok(true)
-}
-
-// The record's call: whether it has a place here.
-fn called(rt: &impl Print, record: &[u8]) -> io::Result<bool> {
-    let kind = number(record, KIND);
-    match kind {
-        1 => calls::encode(rt, record),
-        2 | 3 | 4 => calls::of_block(rt, record, kind),
-        5 => calls::front(rt, record),
-        _ => Ok(false),
-    }
+    calls::answer(rt, &Record::try_from(bytes)?)
 }

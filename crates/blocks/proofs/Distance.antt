@@ -4,13 +4,12 @@
 use mathlib.Core.Path.{◌≡◌, refl, sym, ap, ◌∙◌}
 use mathlib.Core.List.{List, [], ◌∷◌, ◌++◌, reverse, reverse_aux, reverse_aux-append, reverse-reverse}
 use mathlib.Core.Bool.{Bool, true, false, cond}
-use Prim.Native.Nat.{ℕ, zero, suc, ◌+◌, ◌*◌, ◌≤◌, ◌<◌}
+use Prim.Native.Nat.{ℕ, zero, suc, ◌+◌, ◌*◌, ◌≤◌}
 use native.Mathlib.Nat.{zero-add, zero-mul, suc-mul}
-use native.Mathlib.Numerals.{add-one}
 use native.Mathlib.Omega.{arith}
 use lib.Dec.{eqb}
-use lib.ListN.{length, drop, get_or, replicate, length-map}
-use lib.Seq.{drop-drop, drop-cons, length-take-le}
+use lib.ListN.{length, drop, replicate, length-map}
+use lib.Seq.{drop-drop, length-take-le}
 use Rattle.codes.specs.declared.table.Code.{Code}
 use Rattle.codes.specs.Codes.{generators_of, register_of, next_state, output_bit, branch_outputs, outputs_from, with_tail, codeword}
 use Rattle.trellis.specs.Trellis.{Trellis, Path, ends, along, metric}
@@ -29,12 +28,12 @@ distance_append (x ∷ xs) [] [] = omega arith
 distance_append (x ∷ xs) (y ∷ ys) [] = omega arith
 distance_append (x ∷ xs) ys (s ∷ block) = omega (arith, distance_append xs ys block)
 
--- for a loop over the outputs: one place, and what is left
-pub distance_at : (x : ℕ) (xs : List ℕ) (block : List Seen) (at : ℕ) (d : Seen) → at < length block
-    → distance (x ∷ xs) (drop at block)
-    ≡ cond (eqb x (get_or block at d).hard_bit) 0 (get_or block at d).weight + distance xs (drop (at + 1) block)
-unfolding distance
-distance_at x xs block at d h = rw (drop-cons block at d h, add-one)
+-- what is left of a block weighs no more
+rest_weight : (block : List Seen) (n : ℕ) → total_weight (drop n block) ≤ total_weight block
+unfolding total_weight
+rest_weight block zero = omega arith
+rest_weight [] (suc n) = omega arith
+rest_weight (s ∷ block) (suc n) = omega (arith, rest_weight block n)
 
 -- for 'at most the sum of all weights'
 pub distance_total : (xs : List ℕ) (block : List Seen) → distance xs block ≤ total_weight block
@@ -46,6 +45,10 @@ distance_total (x ∷ xs) (s ∷ block) = go (eqb x s.hard_bit) (distance_total 
     go : (same : Bool) → distance xs block ≤ total_weight block → cond same 0 s.weight + distance xs block ≤ s.weight + total_weight block
     go true h = omega arith
     go false h = omega arith
+
+-- for a branch: nor is the distance from what is left of a block behind a place
+pub distance_within : (xs : List ℕ) (block : List Seen) (n : ℕ) → distance xs (drop n block) ≤ total_weight block
+distance_within xs block n = omega (arith, distance_total xs (drop n block), rest_weight block n)
 
 -- ---- metric
 

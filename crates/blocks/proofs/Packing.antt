@@ -19,20 +19,10 @@ pub length_packed : (symbols : List ℤ) → length (packed (view symbols)) ≡ 
 unfolding packed view
 length_packed symbols = length-map (view symbols) pack ∙ length-map symbols _
 
--- and one symbol a number
-pub length_seen_in : (numbers : List ℕ) → length (seen_in numbers) ≡ length numbers
-unfolding seen_in
-length_seen_in numbers = length-map numbers unpack
-
 -- for the loop that writes: the number of a symbol stands at its place
 pub packed_at : (symbols : List ℤ) (i : ℕ) → let z = get_or symbols i (pos 0) in get_or (packed (view symbols)) i 0 ≡ weight z * 2 + hard_bit z
 unfolding packed view
 packed_at symbols i = get_or-map pack (view symbols) i (record { hard_bit = 0; weight = 0 }) ∙ ap pack (get_or-map _ symbols i (pos 0))
-
--- for the loop that reads: what a number shows stands at its place
-pub seen_in_at : (numbers : List ℕ) (i : ℕ) → get_or (seen_in numbers) i (unpack 0) ≡ unpack (get_or numbers i 0)
-unfolding seen_in
-seen_in_at numbers i = get_or-map unpack numbers i 0
 
 -- ---- read back
 
@@ -63,7 +53,3 @@ module _ (symbols : List ℤ) (seen : List ℕ) (room : length symbols ≤ lengt
   see_part =
       ap (take (length symbols)) see_front
       ∙ take_at (packed (view symbols)) (drop (length symbols) seen) (length symbols) (length_packed symbols)
-
-  -- for whoever is lent that part: it shows the view
-  pub see_view : seen_in (take (length symbols) (sets seen 0 (packed (view symbols)))) ≡ view symbols
-  see_view = ap seen_in see_part ∙ seen_in_packed symbols

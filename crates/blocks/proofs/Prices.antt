@@ -1,24 +1,23 @@
--- The branches as the program prices them: a branch of a node below the top stays within the block, and the price of a branch place
--- by place, by the work that is left. Assumes nothing.
-use mathlib.Core.Path.{◌≡◌, ap, ◌∙◌}
-use mathlib.Core.List.{List}
-use mathlib.Core.Bool.{true, cond}
-use Prim.Native.Nat.{ℕ, suc, ◌+◌, ◌*◌, ◌^◌, ◌≤◌, ◌<◌}
+-- The branches as the program prices them: a branch of a node below the top stays within the block, and the distance as a sum over
+-- the places of its level; and that what is seen is light. Assumes nothing.
+use mathlib.Core.Path.{◌≡◌, refl, sym, ap, ◌∙◌}
+use mathlib.Core.List.{List, [], ◌∷◌, map}
+use mathlib.Core.Bool.{Bool, true, false, cond}
+use Prim.Native.Nat.{ℕ, zero, suc, ◌+◌, ◌*◌, ◌/◌, ◌%◌, ◌≤◌, ◌<◌}
 use native.Mathlib.Nat.{mul-le-mul_right, mul_comm, suc-mul}
-use native.Mathlib.Numerals.{add-one}
 use native.Mathlib.Omega.{arith}
 use lib.Dec.{eqb}
-use lib.ListN.{length, get_or, drop, drop_of_length-le}
-use lib.Seq.{drop-cons}
+use lib.ListN.{length, get_or, take}
+use lib.Seq.{take-nil}
 use Rattle.codes.specs.declared.table.Code.{Code}
-use Rattle.codes.specs.Codes.{lawful, block_length}
-use Rattle.trellis.specs.Trellis.{allowed}
-use Rattle.trellis.proofs.Paths.{allowed_top}
-use Rattle.blocks.specs.Symbols.{Seen}
-use Rattle.blocks.specs.Blocks.{distance, trellis_of}
-use Rattle.blocks.specs.Packed.{Priceable, greatest_toll}
-use Rattle.blocks.proofs.Closing.{input_bit}
-use Rattle.blocks.proofs.Distance.{distance_at}
+use Rattle.std.specs.List.{sum, sum_by, zip}
+use Rattle.std.proofs.lemmas.List.Sums.{sum_by-cons, sum-map}
+use Rattle.codes.specs.Limits.{longest_message}
+use Rattle.codes.specs.Codes.{lawful, block_length, output_bit, branch_outputs}
+use Rattle.blocks.specs.Blocks.{distance}
+use Rattle.blocks.specs.Bounds.{total_weight, heaviest}
+use Rattle.blocks.specs.Packed.{greatest_toll, seen_in, toll_of}
+use Rattle.blocks.proofs.Weights.{block_short}
 
 -- ---- within the block
 
@@ -32,46 +31,55 @@ branch_within c l level h =
       mul_comm c.outputs (l + c.memory),
     )
 
--- for the call of `price`: an allowed input of a node can be priced
-pub priceable : (c : Code) (l symbols level state input : ℕ) (block : List Seen)
-    → lawful c ≡ true → symbols ≡ block_length c l → state < 2 ^ c.memory
-    → input < allowed (trellis_of c l block) level → Priceable c symbols level state input
-priceable c l symbols level state input block k e s i = record {
-  code = k;
-  within = omega (arith, branch_within c l level (allowed_top (trellis_of c l block) level input i));
-  state_below = s;
-  input_bit = input_bit c l block level input i;
-}
+-- ---- the distance as a sum
 
--- ---- place by place
+distance_added : (register : ℕ) (generators seen : List ℕ)
+    → distance (branch_outputs generators register) (seen_in seen) ≡ sum_by (λ p. toll_of (output_bit register p.0) p.1) (zip generators seen)
+unfolding distance seen_in
+distance_added register [] seen = refl
+distance_added register (g ∷ generators) [] = refl
+distance_added register (g ∷ generators) (x ∷ seen) =
+    ap (λ (d : ℕ). toll_of (output_bit register g) x + d) (distance_added register generators seen)
+    ∙ sym (sum_by-cons (λ (p : ℕ × ℕ). toll_of (output_bit register p.0) p.1) (g, x) (zip generators seen))
 
--- A branch is being priced: j outputs are paid for, and what is left of them completes the distance.
-pub record Pricing (outputs : List ℕ) (block : List Seen) (first total j : ℕ) : Type 0 where
-  pub within : j ≤ length outputs
-  pub small : total ≤ greatest_toll * j
-  pub left : total + distance (drop j outputs) (drop (first + j) block) ≡ distance outputs (drop first block)
+-- for `distance`: it adds up what each place costs
+pub distance_sum : (register : ℕ) (generators seen : List ℕ)
+    → sum (map (λ p. toll_of (output_bit register p.0) p.1) (zip generators seen)) ≡ distance (branch_outputs generators register) (seen_in seen)
+unfolding distance seen_in
+distance_sum register generators seen =
+    sum-map (λ (p : ℕ × ℕ). toll_of (output_bit register p.0) p.1) (zip generators seen)
+    ∙ sym (distance_added register generators seen)
 
-module _ (outputs : List ℕ) (block : List Seen) (first : ℕ) where
-  -- for the loop's start
-  pub pricing_start : Pricing outputs block first 0 0
-  pricing_start = let e : first + 0 ≡ first = omega arith in record { within = omega arith; small = omega arith; left = rw e (omega arith) }
+-- for a branch's part of the block: the symbols behind it cost nothing
+pub distance_front : (outputs seen : List ℕ) (n : ℕ) → length outputs ≤ n → distance outputs (seen_in (take n seen)) ≡ distance outputs (seen_in seen)
+unfolding distance seen_in
+distance_front [] seen n h = refl
+distance_front (o ∷ outputs) [] n h = rw (take-nil n) refl
+distance_front (o ∷ outputs) (x ∷ seen) zero h = absurd (omega (arith, h))
+distance_front (o ∷ outputs) (x ∷ seen) (suc n) h = ap (λ (d : ℕ). toll_of o x + d) (distance_front outputs seen n (omega (arith, h)))
 
-  module _ (total j : ℕ) (p : Pricing outputs block first total j) where
-    -- for the loop's next turn: one place is paid for
-    pub pricing_next : (d : ℕ) (e : Seen) (paid : ℕ) → j < length outputs → first + j < length block → paid ≤ greatest_toll
-        → paid ≡ cond (eqb (get_or outputs j d) (get_or block (first + j) e).hard_bit) 0 (get_or block (first + j) e).weight
-        → Pricing outputs block first (total + paid) (j + 1)
-    pricing_next d e paid h k s q =
-        let next : first + j + 1 ≡ first + (j + 1) = omega arith in
-        let at : distance (drop j outputs) (drop (first + j) block) ≡ paid + distance (drop (j + 1) outputs) (drop (first + (j + 1)) block) =
-        ap (λ (l : List ℕ). distance l (drop (first + j) block)) (drop-cons outputs j d h ∙ rw add-one)
-        ∙ distance_at (get_or outputs j d) (drop (j + 1) outputs) block (first + j) e k
-        ∙ rw (next, q) in
-        record { within = omega arith; small = omega (arith, p.small); left = omega (arith, p.left, at) }
+-- a number of 16 bits shows a weight of 15
+toll_most : (agrees : Bool) (x : ℕ) → x < 65536 → cond agrees 0 (x / 2) ≤ greatest_toll
+toll_most true x h = omega arith
+toll_most false x h = omega (arith, h)
 
-    -- for the loop's end: nothing is left
-    pub pricing_done : length outputs ≤ j → total ≡ distance outputs (drop first block)
-    unfolding distance
-    pricing_done h =
-        let none : distance (drop j outputs) (drop (first + j) block) ≡ 0 = rw (drop_of_length-le outputs h) in
-        omega (arith, p.left, none)
+-- for a price: what the places of numbers of 16 bits cost in all
+pub distance_most : (outputs seen : List ℕ) → ((i : ℕ) → get_or seen i 0 < 65536) → distance outputs (seen_in seen) ≤ length outputs * greatest_toll
+unfolding distance seen_in
+distance_most [] seen h = omega arith
+distance_most (o ∷ outputs) [] h = omega arith
+distance_most (o ∷ outputs) (x ∷ seen) h =
+    omega (arith, toll_most (eqb o (x % 2)) x (h 0), distance_most outputs seen (λ i. h (suc i)))
+
+-- ---- what is seen is light
+
+-- each weight is half of its number
+numbers_total : (numbers : List ℕ) → ((i : ℕ) → get_or numbers i 0 < 65536) → total_weight (seen_in numbers) ≤ greatest_toll * length numbers
+unfolding total_weight seen_in
+numbers_total [] f = omega arith
+numbers_total (x ∷ numbers) f = omega (arith, f 0, numbers_total numbers (λ i. f (suc i)))
+
+-- for a block that is made: whatever its numbers are, all of 16 bits, it weighs less than the heaviest
+pub seen_light : (c : Code) (l : ℕ) (seen : List ℕ) → lawful c ≡ true → l ≤ longest_message → length seen ≡ block_length c l
+    → ((i : ℕ) → get_or seen i 0 < 65536) → total_weight (seen_in seen) < heaviest
+seen_light c l seen k s e f = omega (arith, numbers_total seen f, block_short c l k s, e)

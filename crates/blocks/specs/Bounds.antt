@@ -1,6 +1,6 @@
 -- How large blocks, weights and metrics are, by name: document 01, 'The code table' and 'Weight, metric, node'. Not believed: no
 -- contract of a public operation cites them; they say why the program's numbers fit. Assumes nothing.
-use Rattle.std.specs.Prelude.{List, [], ◌∷◌, ℕ, ◌+◌, ◌*◌}
+use Rattle.std.specs.Prelude.{List, [], ◌∷◌, ℕ, ◌+◌, ◌*◌, ◌^◌}
 use Rattle.codes.specs.Limits.{most_outputs, most_memory, longest_message}
 use Rattle.blocks.specs.Symbols.{Seen}
 
@@ -20,3 +20,7 @@ greatest_weight = 128
 -- 'at most the sum of all weights, so at most 110,592'
 abbrev pub greatest_metric : ℕ
 greatest_metric = greatest_weight * longest_block
+
+-- more than any block weighs as it is seen: 864 weights, each at most half of the largest number of 16 bits
+abbrev pub heaviest : ℕ
+heaviest = 2 ^ 25

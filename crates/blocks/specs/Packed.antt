@@ -1,10 +1,8 @@
--- The block as plain numbers, one a place, as the program reads it; and what a branch's price asks of its caller.
+-- The block as plain numbers, one a place, as the program reads it; and what a place costs by its number.
 -- Not believed: what the program answers is said of the view alone. That the numbers hold the view is Packing's, in proofs/.
 -- Assumes nothing.
-use Rattle.std.specs.Prelude.{◌≡◌, List, map, true, ℕ, ◌+◌, ◌*◌, ◌/◌, ◌%◌, ◌^◌, ◌≤◌, ◌<◌}
-use Rattle.codes.specs.declared.table.Code.{Code}
+use Rattle.std.specs.Prelude.{List, map, cond, eqb, ℕ, ◌+◌, ◌*◌, ◌/◌, ◌%◌}
 use Rattle.codes.specs.Limits.{most_outputs}
-use Rattle.codes.specs.Codes.{lawful}
 use Rattle.blocks.specs.Symbols.{Seen}
 
 -- ---- numbers
@@ -25,14 +23,9 @@ packed block = map pack block
 unfoldable pub seen_in : List ℕ → List Seen
 seen_in numbers = map unpack numbers
 
--- ---- a branch that can be priced
-
--- a code that keeps the rules, a node and an input, and the branch's symbols among so many
-pub record Priceable (c : Code) (symbols level state input : ℕ) : Type 0 where
-  pub code : lawful c ≡ true
-  pub within : level * c.outputs + c.outputs ≤ symbols
-  pub state_below : state < 2 ^ c.memory
-  pub input_bit : input ≤ 1
+-- what the place of a number costs: its weight, unless the output is its hard bit
+abbrev pub toll_of : ℕ → ℕ → ℕ
+toll_of output number = cond (eqb output (number % 2)) 0 (number / 2)
 
 -- what a place costs at most: half of the largest number of 16 bits
 abbrev pub greatest_toll : ℕ

@@ -6,17 +6,12 @@ ghost use Rattle.blocks.specs.Symbols.{weight, hard_bit};
 pub fn weight(symbol: i8) -> u32
     ensures { result ≡ weight symbol }
 {
-    let wide = symbol as i32;
-    if wide < 0 {
-        (0 - wide) as u32
-    } else {
-        wide as u32
-    }
+    u32::from(symbol.unsigned_abs())
 }
 
 // 1 below zero, 0 otherwise.
 pub fn hard_bit(symbol: i8) -> u32
     ensures { result ≡ hard_bit symbol }
 {
-    if symbol < 0 { 1 } else { 0 }
+    u32::from(symbol < 0)
 }

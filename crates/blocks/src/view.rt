@@ -11,10 +11,8 @@ pub fn see(symbols: &[i8], seen: &mut [u16])
     requires { length symbols.now ≤ length seen.old }
     ensures { seen.new ≡ sets seen.old 0 (packed (view symbols.now)) }
 {
-    let mut i = 0usize;
-    while i < symbols.len() {
-        seen[i] = number(symbols[i]);
-        i += 1;
+    for (i, symbol) in symbols.iter().enumerate() {
+        seen[i] = number(*symbol);
     }
 }
 

@@ -3,12 +3,12 @@
 
 mod decoding;
 mod encoding;
-mod lent;
+mod shown;
 
 use std::io;
 
 fn main(rt: HostRuntime) -> io::Result<()> {
-    show::text(&rt, b"case what goes in, and what comes out\n")?;
+    println!(rt; "case what goes in, and what comes out")?;
     encoding::answered(&rt)?;
     encoding::refused(&rt)?;
     decoding::small(&rt)?;

@@ -1,11 +1,11 @@
 -- What `encode` answers and writes, for every input: document 01, 'When the desk says no'. Believed, after Codes. Assumes nothing.
-use Rattle.std.specs.Prelude.{List, ◌++◌, Bool, cond, not, ◌&&◌, ℕ, leb, length, drop}
+use Rattle.std.specs.Prelude.{List, ◌++◌, Bool, cond, not, ◌&&◌, ℕ, leb, length, drop, Result, Ok, Err}
 use Rattle.lists.specs.Lists.{all}
 use Rattle.codes.specs.Limits.{shortest_message, longest_message}
 use Rattle.codes.specs.Codes.{from, lawful, codeword, block_length}
 use Rattle.codes.specs.declared.table.Code.{Code}
-use Rattle.codes.specs.declared.encoder.Encoded.{Encoded}
-use Rattle.codes.specs.declared.encoder.Encoded.TheVariants.{Done, BadCode, BadSize, Malformed}
+use Rattle.codes.specs.declared.encoder.EncodeError.{EncodeError}
+use Rattle.codes.specs.declared.encoder.EncodeError.TheVariants.{BadCode, BadSize, Malformed}
 
 -- what the encoder hands back: the paper's number, N or 0, and the output buffer as it is then
 pub record Encoding : Type 0 where
@@ -18,11 +18,11 @@ abbrev pub handed : ℕ → ℕ → List ℕ → Encoding
 handed number symbols out = record { number = number; symbols = symbols; out = out }
 
 -- 'For each case of an enum answer, a definition gives this paper's number and values.'
-unfoldable pub told : Encoded → List ℕ → Encoding
-told (Done n) out = handed 0 n out
-told BadCode out = handed 1 0 out
-told BadSize out = handed 2 0 out
-told Malformed out = handed 6 0 out
+unfoldable pub told : Result ℕ EncodeError → List ℕ → Encoding
+told (Ok n) out = handed 0 n out
+told (Err BadCode) out = handed 1 0 out
+told (Err BadSize) out = handed 2 0 out
+told (Err Malformed) out = handed 6 0 out
 
 -- 'A message has L bits, L from 1 to 200'; 'The encoder's L is the length of its message'; 'an output buffer .. too short'
 abbrev pub sizes_fit : Code → ℕ → ℕ → Bool

@@ -3,8 +3,8 @@ ghost use Rattle.std.specs.Prelude.{◌≡◌, ◌≤◌, ◌<◌, ◌^◌};
 ghost use Rattle.codes.specs.Limits.{most_memory};
 ghost use Rattle.codes.specs.Codes.{register_of, output_bit, next_state};
 
-// The memory m and the state, a number below 2^m.
-#[derive(Clone, Copy)]
+// The memory m and the state, a number below 2^m. That bound is no ghost field, since `Register::start` answers for every memory.
+#[derive(Clone, Copy, Debug, PartialEq, Eq)]
 pub struct Register {
     pub memory: u32,
     pub state: u32,
@@ -40,7 +40,8 @@ impl Register {
     }
 }
 
-// The output bit, by walking the register: its low bits and the generator's are met pair by pair.
+// The output bit, by walking the register: its low bits and the generator's are met pair by pair. (A `while`: no index is counted, and
+// the walk ends with the register's last bit.)
 pub fn output_bit(register: u32, generator: u32) -> u8
     ensures { result ≡ output_bit register generator }
 {

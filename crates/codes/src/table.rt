@@ -1,16 +1,38 @@
 // A code, the rules it must keep, and the four house codes.
-ghost use Rattle.std.specs.Prelude.{◌≡◌, ◌≤◌, take};
+ghost use Rattle.std.specs.Prelude.{◌≡◌, true, false, MatchOption, length};
 ghost use Rattle.lists.specs.Lists.{all};
 ghost use Rattle.codes.specs.Codes.{from, lawful, house_code};
 
 use crate::limits::{FEWEST_OUTPUTS, LEAST_MEMORY, MOST_MEMORY, MOST_OUTPUTS};
 
-// n outputs, memory m, and room for four generators, of which the first n count.
-#[derive(Clone, Copy)]
+// n outputs, memory m, and room for four generators, of which the first n count. (An array with n beside: document 01 asks for the form, and
+// a code with any n may be handed in.)
+#[derive(Clone, Copy, Debug, PartialEq, Eq)]
 pub struct Code {
     pub outputs: u32,
     pub memory: u32,
     pub generators: [u32; 4],
+}
+
+// A code that keeps the rules.
+#[derive(Clone, Copy)]
+pub struct Machine {
+    pub code: Code,
+    ghost kept: { lawful code ≡ true },
+    ghost four: { length code.generators ≡ 4 },
+}
+
+impl Machine {
+    // The machine of a code; there is none of a code outside the rules.
+    pub fn new(code: Code) -> Option<Machine>
+        ensures { MatchOption result (lawful code ≡ false) (λ machine. machine.code ≡ code) }
+    {
+        if keeps_rules(code) {
+            Some(Machine { code })
+        } else {
+            None
+        }
+    }
 }
 
 const HOUSE_CODES: [Code; 4] = [
@@ -36,59 +58,39 @@ const HOUSE_CODES: [Code; 4] = [
     },
 ];
 
+// The code of zeros, which keeps no rule. (No `Option`: `house` answers a code for every row, as `house_code` says.)
+const NO_CODE: Code = Code {
+    outputs: 0,
+    memory: 0,
+    generators: [0, 0, 0, 0],
+};
+
 // The house code of a row, from 0 to 3; of any other row the code of zeros, which every operation refuses 1.
+#[tactic(auto, unfolding(crate::specs::Codes::house_code, crate::specs::Codes::house_codes))]
 pub fn house(row: usize) -> Code
     ensures { result ≡ house_code row }
 {
-    if row < 4 {
-        HOUSE_CODES[row]
-    } else {
-        Code {
-            outputs: 0,
-            memory: 0,
-            generators: [0, 0, 0, 0],
-        }
-    }
+    HOUSE_CODES.get(row).copied().unwrap_or(NO_CODE)
 }
 
 // Whether a code keeps the rules of the table. Nothing is shifted before it is tested.
+#[tactic(auto, using(std::proofs::lemmas::Bool::Decides::nat_tests, crate::proofs::Registers::shifted), unfolding(crate::specs::Codes::lawful))]
 pub fn keeps_rules(code: Code) -> bool
     ensures { result ≡ lawful code }
 {
-    let outputs = code.outputs;
-    let memory = code.memory;
-    if outputs < FEWEST_OUTPUTS {
-        return false;
-    }
-    if MOST_OUTPUTS < outputs {
-        return false;
-    }
-    if memory < LEAST_MEMORY {
-        return false;
-    }
-    if MOST_MEMORY < memory {
-        return false;
-    }
-    let generators = code.generators;
-    let greatest = (2u32 << memory) - 1;
-    generators_within(generators, outputs as usize, greatest)
+    (FEWEST_OUTPUTS..=MOST_OUTPUTS).contains(&code.outputs)
+        && (LEAST_MEMORY..=MOST_MEMORY).contains(&code.memory)
+        && generators_within(
+            &code.generators[..code.outputs as usize],
+            (2u32 << code.memory) - 1,
+        )
 }
 
-// Whether each of the first n generators is from 1 to the greatest.
-fn generators_within(generators: [u32; 4], n: usize, greatest: u32) -> bool
-    requires { n ≤ 4 }
-    ensures { result ≡ all (from 1 greatest) (take n generators) }
+// Whether each generator is from 1 to the greatest.
+fn generators_within(generators: &[u32], greatest: u32) -> bool
+    ensures { result ≡ all (from 1 greatest) generators.now }
 {
-    let mut i = 0usize;
-    while i < n {
-        let generator = generators[i];
-        if generator < 1 {
-            return false;
-        }
-        if greatest < generator {
-            return false;
-        }
-        i += 1;
-    }
-    true
+    generators
+        .iter()
+        .all(|&generator| 1 <= generator && generator <= greatest)
 }

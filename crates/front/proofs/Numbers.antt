@@ -1,6 +1,7 @@
 -- No product of a good front end is a NaN. A difference of finite floats is finite or an infinity, since only two infinities make a NaN
 -- of it; and a product of that with a finite gain is no NaN, since only a zero times an infinity makes one, and the gain is above zero.
 -- Assumes nothing.
+use mathlib.Core.Path.{◌≡◌, refl}
 use mathlib.Core.Bool.{Bool, true, false, not, cond, ◌&&◌, beq}
 use Prim.Native.Nat.{ℕ, zero, suc, ◌+◌, ◌-◌, ◌*◌, ◌/◌, ◌%◌, ◌^◌, compare}
 use native.Mathlib.Omega.{arith}
@@ -10,12 +11,20 @@ use borrow.Author.Tests.{ne_eqb}
 use lib.Ieee as Ieee
 use lib.Ieee.{Float, Format, nan, inf, fin, binary32, is_nan, up, down}
 use lib.Ieee.Scale.{finite}
+use Rattle.std.specs.Float.{float_is_finite}
 use Rattle.front.specs.Symbols.{good_gain}
 use Rattle.front.proofs.Choices.{cond_in}
 
 -- a float that is no NaN
 abbrev Number : Float → Type 0
 Number x = T (not (is_nan x))
+
+-- std's test for a finite float is the kit's
+pub finite_is : (x : Float) → float_is_finite x ≡ finite x
+unfolding float_is_finite
+finite_is nan = refl
+finite_is (inf s) = refl
+finite_is (fin s m e) = refl
 
 -- ---- what rounds is no NaN: each step of the kit's rounding, from the inside out
 
@@ -80,3 +89,6 @@ mul_number (inf s) (fin t (suc n) e) hx hg = rw (ne_eqb (suc n) 0 (λ z. omega a
 mul_number (fin s m e) nan hx hg = absurd hg
 mul_number (fin s m e) (inf t) hx hg = absurd hg
 mul_number (fin s m e) (fin t n d) hx hg = round_number binary32 (Ieee.unlike s t) (m * up e * (n * up d)) (down e * down d)
+
+-- for the products of the code
+pub ruleset products = (finite_number, sub_number, mul_number)

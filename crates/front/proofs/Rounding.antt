@@ -72,6 +72,16 @@ cancel l u p n positive unit =
 abbrev pub one : ℕ → ℕ
 one bits = 2 ^ (150 - field bits)
 
+-- the same as the machine has it, by a shift of a word: at most 24 places, so it drops nothing
+abbrev pub shifted : ℕ → ℕ
+shifted bits = 1 * 2 ^ (150 - field bits) % 2 ^ 32
+
+exact : (bits : ℕ) → 126 ≤ field bits → shifted bits ≡ one bits
+exact bits h =
+    let few : 150 - field bits ≤ 24 = omega arith in
+    let most : one bits ≤ 2 ^ 24 = pow_mono few in
+    omega arith
+
 -- between the two: what the code does with the remainder
 module _ (bits : ℕ) (low : 126 ≤ field bits) (high : field bits ≤ 133) where
   scaled : nearest bits ≡ (2 * led bits + one bits) / (2 * one bits)
@@ -81,8 +91,11 @@ module _ (bits : ℕ) (low : 126 ≤ field bits) (high : field bits ≤ 133) whe
       let unit : one bits * 2 ^ field bits ≡ 2 ^ 150 = sym (pow-add 2 (150 - field bits) (field bits)) ∙ ap (λ (k : ℕ). 2 ^ k) whole in
       rw (led_parts bits (omega arith)) (cancel (led bits) (one bits) (2 ^ field bits) (2 ^ 150) (pow_pos (field bits)) unit)
 
-  pub up : one bits ≤ 2 * (led bits % one bits) → nearest bits ≡ led bits / one bits + 1
-  up half = scaled ∙ upwards (led bits) (one bits) (pow_pos (150 - field bits)) half
+  pub up : shifted bits ≤ 2 * (led bits % shifted bits) → nearest bits ≡ led bits / shifted bits + 1
+  up = rw (exact bits low) (λ half. scaled ∙ upwards (led bits) (one bits) (pow_pos (150 - field bits)) half)
 
-  pub down : 2 * (led bits % one bits) < one bits → nearest bits ≡ led bits / one bits
-  down half = scaled ∙ downwards (led bits) (one bits) (pow_pos (150 - field bits)) half
+  pub down : 2 * (led bits % shifted bits) < shifted bits → nearest bits ≡ led bits / shifted bits
+  down = rw (exact bits low) (λ half. scaled ∙ downwards (led bits) (one bits) (pow_pos (150 - field bits)) half)
+
+-- for the code's three ranges
+pub ruleset ranges = (small, large, up, down)

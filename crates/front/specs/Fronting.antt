@@ -1,7 +1,7 @@
 -- What `front` answers and writes, for every input: document 01, 'When the desk says no' and 'From readings to symbols'.
 -- Believed, after Symbols and Reports. Two floats are equal here only if they are the same number with the same sign, so -0 and +0
 -- differ, as their bits do; every NaN is one value, and none is ever handed back (proofs/Reported.antt). Assumes nothing.
-use Rattle.std.specs.Prelude.{List, [], ◌∷◌, ◌++◌, map, Bool, cond, not, ◌&&◌, ℕ, suc, ltb, leb, ℤ, length, drop, Float}
+use Rattle.std.specs.Prelude.{List, [], ◌∷◌, ◌++◌, map, Bool, cond, not, ◌&&◌, ℕ, suc, ltb, leb, ℤ, length, drop, Float, Result, Ok, Err}
 use Rattle.std.specs.Float.Ieee.Scale.{finite}
 use Rattle.front.specs.Limits.{most_readings}
 use Rattle.front.specs.Symbols.{good, symbol_of}
@@ -9,7 +9,8 @@ use Rattle.front.specs.Reports.{no_report, report_of}
 use Rattle.front.specs.declared.FrontEnd.{FrontEnd}
 use Rattle.front.specs.declared.Report.{Report}
 use Rattle.front.specs.declared.Fronted.{Fronted}
-use Rattle.front.specs.declared.Fronted.TheVariants.{Done, BadSize, Malformed, NotFinite}
+use Rattle.front.specs.declared.FrontError.{FrontError}
+use Rattle.front.specs.declared.FrontError.TheVariants.{BadSize, Malformed, NotFinite}
 
 -- what the front end hands back: the paper's number, how many symbols, the index of a reading that is not finite, the report, and the
 -- symbol buffer as it is then
@@ -26,11 +27,11 @@ handed number count index report symbols =
     record { number = number; count = count; index = index; lowest = report.lowest; highest = report.highest; symbols = symbols }
 
 -- the paper's number and values for each case of the answer
-unfoldable pub told : Fronted → List ℤ → Fronting
-told (Done count report) symbols = handed 0 count 0 report symbols
-told BadSize symbols = handed 2 0 0 no_report symbols
-told Malformed symbols = handed 6 0 0 no_report symbols
-told (NotFinite index) symbols = handed 8 0 index no_report symbols
+unfoldable pub told : Result Fronted FrontError → List ℤ → Fronting
+told (Ok fronted) symbols = handed 0 fronted.count 0 fronted.report symbols
+told (Err BadSize) symbols = handed 2 0 0 no_report symbols
+told (Err Malformed) symbols = handed 6 0 0 no_report symbols
+told (Err (NotFinite index)) symbols = handed 8 0 index no_report symbols
 
 -- 'A block has 1 to 864 readings', and the symbol buffer has a place for each
 abbrev pub sizes_fit : ℕ → ℕ → Bool

@@ -2,14 +2,18 @@
 // for every bit pattern of every float, is the one equation of its contract.
 #![tactic(auto)]
 
-ghost use Rattle.std.specs.Prelude.{◌≡◌, ◌++◌, map, min, T, length, drop};
+ghost use Rattle.std.specs.Prelude.{◌≡◌, ◌++◌, map, min, not, position, T, length, drop};
+ghost use Rattle.std.specs.Float.{float_is_finite};
 ghost use Rattle.std.specs.Float.Ieee.Scale.{finite};
 ghost use Rattle.front.specs.Limits.{furthest};
 ghost use Rattle.front.specs.Rounding.{nearest, rounded};
 ghost use Rattle.front.specs.Symbols.{good_gain, good, symbol_of};
 ghost use Rattle.front.specs.Reports.{seen, report_of};
-ghost use Rattle.front.specs.Fronting.{finite_run, told, fronting};
+ghost use Rattle.front.specs.Fronting.{told, fronting};
 ghost use Rattle.front.specs.Convertible.{Convertible};
+
+use std::error::Error;
+use std::fmt;
 
 // The limits of document 01: specs/Limits.antt has each by name.
 const MOST_READINGS: usize = 864;
@@ -17,7 +21,7 @@ const MOST_READINGS: usize = 864;
 const FURTHEST: u32 = 127;
 
 // A front end is one of three: a gain; an offset and a gain; or a bare threshold.
-#[derive(Clone, Copy)]
+#[derive(Clone, Copy, Debug, PartialEq)]
 pub enum FrontEnd {
     Gain(f32),
     Offset { offset: f32, gain: f32 },
@@ -25,84 +29,96 @@ pub enum FrontEnd {
 }
 
 // The lowest and the highest reading.
-#[derive(Clone, Copy)]
+#[derive(Clone, Copy, Debug, PartialEq)]
 pub struct Report {
     pub lowest: f32,
     pub highest: f32,
 }
 
-// What `front` answers: the number of symbols written and the report, or a refusal.
-#[derive(Clone, Copy)]
-pub enum Fronted {
-    Done { count: usize, report: Report },
+// What `front` hands back: the number of symbols written, and the report.
+#[derive(Clone, Copy, Debug, PartialEq)]
+pub struct Fronted {
+    pub count: usize,
+    pub report: Report,
+}
+
+// The paper's refusals 2, 6, 8.
+#[derive(Clone, Copy, Debug, PartialEq, Eq)]
+pub enum FrontError {
     BadSize,
     Malformed,
     NotFinite { index: usize },
 }
 
+impl fmt::Display for FrontError {
+    fn fmt<W: fmt::Write>(&self, f: &mut fmt::Formatter<W>) -> fmt::Result {
+        match self {
+            FrontError::BadSize => write!(f, "2 a length not as stated"),
+            FrontError::Malformed => write!(f, "6 malformed"),
+            FrontError::NotFinite { index } => write!(
+                f,
+                "8 a reading is not finite, index {index}"
+            ),
+        }
+    }
+}
+
+impl Error for FrontError {}
+
 // A block of readings to symbols, one each at the start of `symbols`, with the report. On a refusal nothing is written.
-pub fn front(front_end: FrontEnd, readings: &[f32], symbols: &mut [i8]) -> Fronted
+#[tactic(auto, using(crate::proofs::Blocks::tested), unfolding(crate::specs::Fronting::told, crate::specs::Fronting::fronting))]
+pub fn front(
+    front_end: FrontEnd,
+    readings: &[f32],
+    symbols: &mut [i8],
+) -> Result<Fronted, FrontError>
     ensures { told result symbols.new ≡ fronting front_end readings.now symbols.old }
 {
     let count = readings.len();
-    if count < 1 {
-        return Fronted::BadSize;
-    }
-    if MOST_READINGS < count {
-        return Fronted::BadSize;
-    }
-    if symbols.len() < count {
-        return Fronted::BadSize;
+    if count < 1 || MOST_READINGS < count || symbols.len() < count {
+        return Err(FrontError::BadSize);
     }
     if !front_end.is_good() {
-        return Fronted::Malformed;
+        return Err(FrontError::Malformed);
     }
-    let index = finite_run(readings);
-    if index < count {
-        return Fronted::NotFinite { index };
+    if let Some(index) = first_not_finite(readings) {
+        return Err(FrontError::NotFinite { index });
     }
     let report = convert(front_end, readings, symbols);
-    Fronted::Done { count, report }
+    Ok(Fronted { count, report })
 }
 
 // Each reading's symbol and the report.
+#[tactic(auto, using(crate::proofs::Blocks::block))]
 fn convert(front_end: FrontEnd, readings: &[f32], symbols: &mut [i8]) -> Report
     requires { Convertible front_end readings.now symbols.old }
-    ensures { (result ≡ report_of readings.now)
-        × (symbols.new
-        ≡ map (symbol_of front_end) readings.now ++ drop (length readings.now) symbols.old) }
+    ensures reported { result ≡ report_of readings.now }
+    ensures written { symbols.new
+        ≡ map (symbol_of front_end) readings.now ++ drop (length readings.now) symbols.old }
 {
     let first = readings[0];
     let mut report = Report {
         lowest: first,
         highest: first,
     };
-    let mut i = 0;
-    while i < readings.len() {
-        let reading = readings[i];
-        report = report.seen(reading);
-        symbols[i] = front_end.symbol(reading);
-        i += 1;
+    // (The symbol by its index: of what is written through a zip of `symbols.iter_mut()` the proof learns nothing.)
+    for (i, reading) in readings.iter().enumerate() {
+        report = report.seen(*reading);
+        symbols[i] = front_end.symbol(*reading);
     }
     report
 }
 
-// The index of the first reading that is not finite; the number of readings if all are.
-fn finite_run(readings: &[f32]) -> usize
-    ensures { result ≡ finite_run readings.now }
+// The index of the first reading that is not finite.
+fn first_not_finite(readings: &[f32]) -> Option<usize>
+    ensures { result ≡ position (λ x. not (float_is_finite x)) readings.now }
 {
-    let mut i = 0;
-    while i < readings.len() {
-        if !is_finite(readings[i]) {
-            return i;
-        }
-        i += 1;
-    }
-    i
+    readings.iter().position(|reading| !reading.is_finite())
 }
 
 impl Report {
     // The report after one more reading: of equal ones the first seen stays.
+    // (Not `f32::min` and `f32::max`: of 0 and -0 these may give either, and `report_of` says that the first stays.)
     fn seen(self, reading: f32) -> Report
         ensures { result ≡ seen self reading }
     {
@@ -122,29 +138,32 @@ impl Report {
 
 impl FrontEnd {
     // Whether its numbers are finite and its gain, if it has one, is above zero.
+    #[tactic(auto, using(crate::proofs::Numbers::finite_is), unfolding(crate::specs::Symbols::good))]
     fn is_good(self) -> bool
         ensures { result ≡ good self }
     {
         match self {
             FrontEnd::Gain(gain) => is_good_gain(gain),
-            FrontEnd::Offset { offset, gain } => is_finite(offset) && is_good_gain(gain),
-            FrontEnd::Threshold(threshold) => is_finite(threshold),
+            FrontEnd::Offset { offset, gain } => offset.is_finite() && is_good_gain(gain),
+            FrontEnd::Threshold(threshold) => threshold.is_finite(),
         }
     }
 
     // The symbol of one reading. No product is a NaN, since the numbers are finite and the gain is not zero.
+    #[tactic(auto, using(crate::proofs::Numbers::products), unfolding(crate::specs::Symbols::good, crate::specs::Symbols::symbol_of))]
     fn symbol(self, reading: f32) -> i8
-        requires { T (good self) × T (finite reading) }
+        requires front_good { T (good self) }
+        requires reading_finite { T (finite reading) }
         ensures { result ≡ symbol_of self reading }
     {
         match self {
             FrontEnd::Gain(gain) => {
                 let product = reading * gain;
-                symbol_of_product(f32::to_bits(product))
+                plumtassel_symbol_of_product(product.to_bits())
             }
             FrontEnd::Offset { offset, gain } => {
                 let product = (reading - offset) * gain;
-                symbol_of_product(f32::to_bits(product))
+                plumtassel_symbol_of_product(product.to_bits())
             }
             FrontEnd::Threshold(threshold) => if threshold <= reading { 1 } else { -1 },
         }
@@ -152,30 +171,17 @@ impl FrontEnd {
 }
 
 // Whether a gain is finite and above zero.
+#[tactic(auto, using(crate::proofs::Numbers::finite_is))]
 fn is_good_gain(gain: f32) -> bool
     ensures { result ≡ good_gain gain }
 {
-    is_finite(gain) && 0.0 < gain
-}
-
-// Whether a number is neither a NaN nor an infinity: strictly between the two infinities.
-fn is_finite(number: f32) -> bool
-    ensures { result ≡ finite number }
-{
-    let infinity = f32::from_bits(0x7f80_0000);
-    number < infinity && -infinity < number
+    gain.is_finite() && 0.0 < gain
 }
 
 // The symbol of a product with these bits. The crate `front_c` exports it, for a program in C or Rust that tries every bit pattern
 // (second/rounding).
+#[tactic(auto, unfolding(crate::specs::Rounding::rounded))]
 pub fn plumtassel_symbol_of_product(bits: u32) -> i8
-    ensures { result ≡ rounded bits }
-{
-    symbol_of_product(bits)
-}
-
-// The symbol of a product, from the product's bits.
-fn symbol_of_product(bits: u32) -> i8
     ensures { result ≡ rounded bits }
 {
     let near = distance(bits) as i8;
@@ -185,6 +191,7 @@ fn symbol_of_product(bits: u32) -> i8
 // How far from zero a product's symbol lies, from the product's bits: a field of 8 bits for the exponent above 23 digits.
 // Below exponent 126 the product is less than a half, and above 133 it is 128 or more. Between them its significand, the digits
 // behind their leading one, holds whole numbers above the last 150 - exponent places.
+#[tactic(auto, using(crate::proofs::Rounding::ranges))]
 fn distance(bits: u32) -> u32
     ensures { result ≡ min furthest (nearest bits) }
 {
@@ -200,5 +207,5 @@ fn distance(bits: u32) -> u32
     let whole = significand / one;
     let rest = significand % one;
     let near = if one <= 2 * rest { whole + 1 } else { whole };
-    if FURTHEST < near { FURTHEST } else { near }
+    near.min(FURTHEST)
 }

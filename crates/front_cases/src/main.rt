@@ -2,113 +2,132 @@
 // their bits. The symbol buffer has eight places, each 99 before the call, so that the untouched ones are seen.
 #![tactic(auto)]
 
-use front::{FrontEnd, Fronted};
-use std::io;
+use front::{FrontEnd, FrontError, Fronted, Report};
+use std::{fmt, io};
 
-fn not_a_number() -> f32 {
-    let zero = 0.0f32;
-    zero / zero
-}
+// A float, shown by its 32 bits in hexadecimal. A NaN has many patterns, so it is named.
+#[derive(Clone, Copy)]
+struct Bits(f32);
 
-fn infinity() -> f32 {
-    let zero = 0.0f32;
-    1.0f32 / zero
-}
-
-// The paper's number and values.
-fn told(
-    rt: &impl Print,
-    number: usize,
-    count: usize,
-    index: usize,
-    lowest: f32,
-    highest: f32,
-) -> io::Result<()> {
-    show::text(rt, b"  out  ")?;
-    show::count(rt, number)?;
-    show::text(rt, b" count ")?;
-    show::count(rt, count)?;
-    show::text(rt, b" index ")?;
-    show::count(rt, index)?;
-    show::text(rt, b" lowest ")?;
-    show::float(rt, lowest)?;
-    show::text(rt, b" highest ")?;
-    show::float(rt, highest)
-}
-
-// An answer, by its number.
-fn answered(rt: &impl Print, answer: Fronted) -> io::Result<()> {
-    match answer {
-        Fronted::Done { count, report } => told(rt, 0, count, 0, report.lowest, report.highest),
-        Fronted::BadSize => told(rt, 2, 0, 0, 0.0, 0.0),
-        Fronted::Malformed => told(rt, 6, 0, 0, 0.0, 0.0),
-        Fronted::NotFinite { index } => told(rt, 8, 0, index, 0.0, 0.0),
+impl fmt::Display for Bits {
+    fn fmt<W: fmt::Write>(&self, f: &mut fmt::Formatter<W>) -> fmt::Result {
+        if self.0.is_nan() {
+            return write!(f, "nan");
+        }
+        write!(f, "{:08x}", self.0.to_bits())
     }
 }
 
-// A front end, by its form.
-fn asked(rt: &impl Print, front_end: FrontEnd) -> io::Result<()> {
-    match front_end {
-        FrontEnd::Gain(gain) => {
-            show::text(rt, b"\n  in   gain ")?;
-            show::float(rt, gain)
+// The readings, each after a space.
+#[derive(Clone, Copy)]
+struct Readings<'a>(&'a [f32]);
+
+impl<'a> fmt::Display for Readings<'a> {
+    fn fmt<W: fmt::Write>(&self, f: &mut fmt::Formatter<W>) -> fmt::Result {
+        for reading in self.0 {
+            write!(f, " {}", Bits(*reading))?;
         }
-        FrontEnd::Offset { offset, gain } => {
-            show::text(rt, b"\n  in   offset ")?;
-            show::float(rt, offset)?;
-            show::text(rt, b" gain ")?;
-            show::float(rt, gain)
+        Ok(())
+    }
+}
+
+// The symbols, each after a space. (Not one generic with `Readings`: a reading is shown through `Bits`, and a slice of these would have to
+// be made first.)
+#[derive(Clone, Copy)]
+struct Symbols<'a>(&'a [i8]);
+
+impl<'a> fmt::Display for Symbols<'a> {
+    fn fmt<W: fmt::Write>(&self, f: &mut fmt::Formatter<W>) -> fmt::Result {
+        for symbol in self.0 {
+            write!(f, " {symbol}")?;
         }
-        FrontEnd::Threshold(threshold) => {
-            show::text(rt, b"\n  in   threshold ")?;
-            show::float(rt, threshold)
+        Ok(())
+    }
+}
+
+// What was asked for: a front end, by its form.
+#[derive(Clone, Copy)]
+struct Asked(FrontEnd);
+
+impl fmt::Display for Asked {
+    fn fmt<W: fmt::Write>(&self, f: &mut fmt::Formatter<W>) -> fmt::Result {
+        match self.0 {
+            FrontEnd::Gain(gain) => write!(f, "gain {}", Bits(gain)),
+            FrontEnd::Offset { offset, gain } => write!(
+                f,
+                "offset {} gain {}",
+                Bits(offset),
+                Bits(gain)
+            ),
+            FrontEnd::Threshold(threshold) => write!(f, "threshold {}", Bits(threshold)),
         }
     }
 }
 
-// One case: its text, what goes in, and what comes out.
-fn run(rt: &impl Print, name: &[u8], front_end: FrontEnd, readings: &[f32]) -> io::Result<()> {
+// The answer: the paper's number and values, 0 where a refusal has none. (Numbers: what the program prints may not change.)
+#[derive(Clone, Copy)]
+struct Told(Result<Fronted, FrontError>);
+
+impl fmt::Display for Told {
+    fn fmt<W: fmt::Write>(&self, f: &mut fmt::Formatter<W>) -> fmt::Result {
+        let none = Fronted {
+            count: 0,
+            report: Report {
+                lowest: 0.0,
+                highest: 0.0,
+            },
+        };
+        let (number, index, Fronted { count, report }) = match self.0 {
+            Ok(fronted) => (0, 0, fronted),
+            Err(FrontError::BadSize) => (2, 0, none),
+            Err(FrontError::Malformed) => (6, 0, none),
+            Err(FrontError::NotFinite { index }) => (8, index, none),
+        };
+        let lowest = Bits(report.lowest);
+        let highest = Bits(report.highest);
+        write!(
+            f,
+            "{number} count {count} index {index} lowest {lowest} highest {highest}"
+        )
+    }
+}
+
+// One case: its name, what goes in, and what comes out.
+fn run(rt: &impl Print, name: &str, front_end: FrontEnd, readings: &[f32]) -> io::Result<()> {
     let mut symbols = [99i8; 8];
-    show::text(rt, name)?;
-    asked(rt, front_end)?;
-    show::text(rt, b"; readings")?;
-    show::floats(rt, readings)?;
-    show::text(rt, b"\n")?;
-    answered(rt, front::front(front_end, readings, &mut symbols))?;
-    show::text(rt, b"; symbols")?;
-    show::symbols(rt, &symbols)?;
-    show::text(rt, b"\n")
+    let told = Told(front::front(front_end, readings, &mut symbols));
+    println!(rt;
+        "{name}\n  in   {}; readings{}",
+        Asked(front_end),
+        Readings(readings)
+    )?;
+    println!(rt; "  out  {told}; symbols{}", Symbols(&symbols))
 }
 
 // Halves go away from zero; the floats next below them do not.
 fn halves(rt: &impl Print) -> io::Result<()> {
     let above = [0.5f32, 1.5, 126.5, 127.5];
-    run(rt, b"gain 1: halves", FrontEnd::Gain(1.0), &above)?;
+    run(rt, "gain 1: halves", FrontEnd::Gain(1.0), &above)?;
     let below = [-0.5f32, -1.5, -126.5, -127.5];
-    run(
-        rt,
-        b"gain 1: halves below zero",
-        FrontEnd::Gain(1.0),
-        &below,
-    )?;
+    run(rt, "gain 1: halves below zero", FrontEnd::Gain(1.0), &below)?;
     let short = [0.49999997f32, 1.4999999, 126.49999, 127.49999];
     run(
         rt,
-        b"gain 1: next nearer to zero than a half",
+        "gain 1: next nearer to zero than a half",
         FrontEnd::Gain(1.0),
         &short,
     )?;
     let short_below = [-0.49999997f32, -1.4999999, -126.49999, -127.49999];
     run(
         rt,
-        b"gain 1: next nearer to zero than a half, below zero",
+        "gain 1: next nearer to zero than a half, below zero",
         FrontEnd::Gain(1.0),
         &short_below,
     )?;
     let long_below = [-0.50000006f32, -1.5000001, -126.50001, -127.50001];
     run(
         rt,
-        b"gain 1: next farther from zero than a half, below zero",
+        "gain 1: next farther from zero than a half, below zero",
         FrontEnd::Gain(1.0),
         &long_below,
     )
@@ -117,11 +136,11 @@ fn halves(rt: &impl Print) -> io::Result<()> {
 // Of equal readings the first seen stays in the report, so the sign of a zero is that of the first.
 fn zeros(rt: &impl Print) -> io::Result<()> {
     let plus_first = [0.0f32, -0.0];
-    run(rt, b"gain 1: 0, -0", FrontEnd::Gain(1.0), &plus_first)?;
+    run(rt, "gain 1: 0, -0", FrontEnd::Gain(1.0), &plus_first)?;
     let minus_first = [-0.0f32, 0.0];
-    run(rt, b"gain 1: -0, 0", FrontEnd::Gain(1.0), &minus_first)?;
+    run(rt, "gain 1: -0, 0", FrontEnd::Gain(1.0), &minus_first)?;
     let among = [5.0f32, -0.0, 0.0, 5.0];
-    run(rt, b"gain 1: 5, -0, 0, 5", FrontEnd::Gain(1.0), &among)
+    run(rt, "gain 1: 5, -0, 0, 5", FrontEnd::Gain(1.0), &among)
 }
 
 // Products and differences past the largest float and below the smallest.
@@ -129,14 +148,14 @@ fn extremes(rt: &impl Print) -> io::Result<()> {
     let largest = [3.4028235e38f32, -3.4028235e38];
     run(
         rt,
-        b"gain largest: largest, -largest",
+        "gain largest: largest, -largest",
         FrontEnd::Gain(3.4028235e38),
         &largest,
     )?;
     let smallest = [1e-45f32, -1e-45];
     run(
         rt,
-        b"gain smallest: smallest, -smallest",
+        "gain smallest: smallest, -smallest",
         FrontEnd::Gain(1e-45),
         &smallest,
     )?;
@@ -146,7 +165,7 @@ fn extremes(rt: &impl Print) -> io::Result<()> {
     };
     run(
         rt,
-        b"offset -largest, gain smallest: largest, -largest",
+        "offset -largest, gain smallest: largest, -largest",
         low,
         &largest,
     )?;
@@ -156,7 +175,7 @@ fn extremes(rt: &impl Print) -> io::Result<()> {
     };
     run(
         rt,
-        b"offset largest, gain smallest: largest, -largest",
+        "offset largest, gain smallest: largest, -largest",
         high,
         &largest,
     )
@@ -171,21 +190,21 @@ fn offset_and_threshold(rt: &impl Print) -> io::Result<()> {
     };
     run(
         rt,
-        b"offset 10, gain 2: 10, 10.25, 9.75, 73.5, -53.5",
+        "offset 10, gain 2: 10, 10.25, 9.75, 73.5, -53.5",
         ten,
         &around_ten,
     )?;
     let around_half = [1.5f32, 1.4999999, 1.5000001, -3.0];
     run(
         rt,
-        b"threshold 1.5: 1.5, next below, next above, -3",
+        "threshold 1.5: 1.5, next below, next above, -3",
         FrontEnd::Threshold(1.5),
         &around_half,
     )?;
     let around_zero = [-0.0f32, 0.0, 1e-45, -1e-45];
     run(
         rt,
-        b"threshold 0: -0, 0, smallest, -smallest",
+        "threshold 0: -0, 0, smallest, -smallest",
         FrontEnd::Threshold(0.0),
         &around_zero,
     )
@@ -194,50 +213,45 @@ fn offset_and_threshold(rt: &impl Print) -> io::Result<()> {
 // Refusal 6: a number of the front end is not finite, or a gain is not above zero.
 fn bad_front_ends(rt: &impl Print) -> io::Result<()> {
     let one = [1.0f32];
-    let bad = not_a_number();
-    run(rt, b"gain NaN", FrontEnd::Gain(bad), &one)?;
-    run(rt, b"gain infinite", FrontEnd::Gain(infinity()), &one)?;
-    run(rt, b"gain 0", FrontEnd::Gain(0.0), &one)?;
-    run(rt, b"gain -0", FrontEnd::Gain(-0.0), &one)?;
-    run(rt, b"gain -1", FrontEnd::Gain(-1.0), &one)?;
+    let bad = f32::NAN;
+    run(rt, "gain NaN", FrontEnd::Gain(bad), &one)?;
+    run(rt, "gain infinite", FrontEnd::Gain(f32::INFINITY), &one)?;
+    run(rt, "gain 0", FrontEnd::Gain(0.0), &one)?;
+    run(rt, "gain -0", FrontEnd::Gain(-0.0), &one)?;
+    run(rt, "gain -1", FrontEnd::Gain(-1.0), &one)?;
     let bad_offset = FrontEnd::Offset {
         offset: bad,
         gain: 1.0,
     };
-    run(rt, b"offset NaN, gain 1", bad_offset, &one)?;
+    run(rt, "offset NaN, gain 1", bad_offset, &one)?;
     let bad_gain = FrontEnd::Offset {
         offset: 1.0,
         gain: bad,
     };
-    run(rt, b"offset 1, gain NaN", bad_gain, &one)?;
+    run(rt, "offset 1, gain NaN", bad_gain, &one)?;
     let no_gain = FrontEnd::Offset {
         offset: 1.0,
         gain: 0.0,
     };
-    run(rt, b"offset 1, gain 0", no_gain, &one)?;
-    run(rt, b"threshold NaN", FrontEnd::Threshold(bad), &one)
+    run(rt, "offset 1, gain 0", no_gain, &one)?;
+    run(rt, "threshold NaN", FrontEnd::Threshold(bad), &one)
 }
 
 // Refusal 8: the first reading that is not finite.
 fn bad_readings(rt: &impl Print) -> io::Result<()> {
-    let second = [1.0f32, not_a_number(), infinity()];
+    let second = [1.0f32, f32::NAN, f32::INFINITY];
+    run(rt, "gain 1: 1, NaN, infinite", FrontEnd::Gain(1.0), &second)?;
+    let last = [1.0f32, 2.0, f32::NEG_INFINITY];
     run(
         rt,
-        b"gain 1: 1, NaN, infinite",
-        FrontEnd::Gain(1.0),
-        &second,
-    )?;
-    let last = [1.0f32, 2.0, -infinity()];
-    run(
-        rt,
-        b"threshold 0: 1, 2, -infinite",
+        "threshold 0: 1, 2, -infinite",
         FrontEnd::Threshold(0.0),
         &last,
     )?;
     run(
         rt,
-        b"gain NaN and a reading NaN: the front end first",
-        FrontEnd::Gain(not_a_number()),
+        "gain NaN and a reading NaN: the front end first",
+        FrontEnd::Gain(f32::NAN),
         &second,
     )
 }
@@ -247,19 +261,19 @@ fn bad_sizes(rt: &impl Print) -> io::Result<()> {
     let many = [1.0f32; 9];
     run(
         rt,
-        b"gain NaN, no reading: the size first",
-        FrontEnd::Gain(not_a_number()),
+        "gain NaN, no reading: the size first",
+        FrontEnd::Gain(f32::NAN),
         &many[..0],
     )?;
     run(
         rt,
-        b"gain 1, eight readings for eight places",
+        "gain 1, eight readings for eight places",
         FrontEnd::Gain(1.0),
         &many[..8],
     )?;
     run(
         rt,
-        b"gain 1, nine readings for eight places",
+        "gain 1, nine readings for eight places",
         FrontEnd::Gain(1.0),
         &many,
     )
@@ -269,24 +283,18 @@ fn bad_sizes(rt: &impl Print) -> io::Result<()> {
 fn longest(rt: &impl Print) -> io::Result<()> {
     let readings = [1.0f32; 865];
     let mut symbols = [99i8; 865];
-    show::text(rt, b"gain 1, 864 readings\n")?;
-    answered(
-        rt,
-        front::front(FrontEnd::Gain(1.0), &readings[..864], &mut symbols),
-    )?;
-    show::text(rt, b"\ngain 1, 865 readings\n")?;
-    answered(
-        rt,
-        front::front(FrontEnd::Gain(1.0), &readings, &mut symbols),
-    )?;
-    show::text(rt, b"\n")
+    let gain = FrontEnd::Gain(1.0);
+    let told = Told(front::front(gain, &readings[..864], &mut symbols));
+    println!(rt; "gain 1, 864 readings\n  out  {told}")?;
+    let told = Told(front::front(gain, &readings, &mut symbols));
+    println!(rt; "gain 1, 865 readings\n  out  {told}")
 }
 
 fn main(rt: HostRuntime) -> io::Result<()> {
     let fifteen = [0.25f32, -0.25, 63.0, 63.25, 1000.0];
     run(
         &rt,
-        b"case 15, gain 2: 0.25, -0.25, 63, 63.25, 1000",
+        "case 15, gain 2: 0.25, -0.25, 63, 63.25, 1000",
         FrontEnd::Gain(2.0),
         &fifteen,
     )?;

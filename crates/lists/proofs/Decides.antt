@@ -23,10 +23,7 @@ pub agree : {a b : Bool} {P : Type 0} → Decides a P → Decides b P → a ≡ 
 agree {a = true} {b = b} d e = sym (true_out b (e.into (d.out tt)))
 agree {a = false} {b = b} d e = sym (false_out b (λ h. d.into (e.out h)))
 
--- where the statement is known to hold, or to fail
-pub decided_yes : {a : Bool} {P : Type 0} → Decides a P → P → a ≡ true
-decided_yes {a} d p = true_out a (d.into p)
-
+-- where the statement is known to fail
 pub decided_no : {a : Bool} {P : Type 0} → Decides a P → (P → ⊥) → a ≡ false
 decided_no {a} d n = false_out a (λ h. n (d.out h))
 

@@ -1,4 +1,4 @@
--- A computed test as a fact, T: how to split on it, its value, T of 'and' and 'or', and what two tests and the rest come to.
+-- A computed test as a fact, T: how to split on it, its value, T of 'and' and 'or'.
 -- Not here: tests on numbers (lib.Dec; borrow.Author.Tests), a test and its negation (T-not, not-T in lib.Dec). Assumes nothing.
 use mathlib.Core.Path.{◌≡◌, refl}
 use mathlib.Core.Logic.{◌⊎◌, inl, inr}
@@ -54,17 +54,3 @@ or_out false b h = inr h
 -- for tests that are compared with true, as contracts have them: the kit's law, this way only
 pub both : (a b : Bool) → (a && b) ≡ true → (a ≡ true) × (b ≡ true)
 both a b = (and-eq-true_iff a b).0
-
--- ---- two tests and the rest, for a loop that makes both in a turn
-
--- the first fails
-pub first_fails : (a b rest : Bool) → a ≡ false → a && b && rest ≡ false
-first_fails a b rest e = rw e
-
--- the second does
-pub second_fails : (a b rest : Bool) → a ≡ true → b ≡ false → a && b && rest ≡ false
-second_fails a b rest e f = rw (e, f)
-
--- the rest decides
-pub both_pass : (a b rest : Bool) → a ≡ true → b ≡ true → a && b && rest ≡ rest
-both_pass a b rest e f = rw (e, f)

@@ -1,6 +1,4 @@
-pub mod Encoder
-pub mod Decoder
+pub mod Told
 pub mod Sheet
-pub mod Check
 pub mod Front
 pub mod Pinned

@@ -1,10 +1,9 @@
 // The C face: one function for each operation, thin. It takes the caller's structs apart, calls the operation and puts the answer
 // together; what it promises is the operation's own definition. The crate `plumtassel_c` exports these functions to C, and
-// include/plumtassel.h declares them there.
+// include/plumtassel.h declares them there. (Parameters that travel together stay apart: C interface.)
 #![tactic(auto)]
 
-ghost use Rattle.std.specs.Prelude.{◌≡◌, ◌≤◌, length as len};
-ghost use Rattle.blocks.specs.Bounds.{longest_block};
+ghost use Rattle.std.specs.Prelude.{◌≡◌, Err, length as len};
 ghost use Rattle.codes.specs.Codes.{house_code};
 ghost use Rattle.codes.specs.Encoding.{encoding};
 ghost use Rattle.search.specs.Decoding.{decoding};
@@ -12,17 +11,17 @@ ghost use Rattle.sheets.specs.Checking.{checking};
 ghost use Rattle.writer.specs.Sheeting.{sheeting};
 ghost use Rattle.plumtassel.specs.Face.{face_code, code_of, encoded, decoded, sheeted, checked};
 ghost use Rattle.plumtassel.specs.Fronts.{struct_fronting, reported};
-ghost use Rattle.plumtassel.specs.Made.{longest_sheet, refusal, encoder_answer, search_answer, decoder_answer, sheet_answer};
-ghost use Rattle.plumtassel.specs.Made.{check_answer, choice, refused_reading, front_report, Small};
+ghost use Rattle.plumtassel.specs.Made.{refusal, encoder_answer, decoder_answer, check_answer, choice};
 
-use codes::encoder::{Encoded, encode};
+use codes::encoder::{EncodeError, encode};
 use codes::table::house;
-use front::{Fronted, front};
-use search::decoder::{Decoded, decode};
-use sheets::check::{Checked, check};
-use writer::writer::{DecodedSheet, decode_sheet};
+use front::{FrontError, Fronted, front};
+use search::decoder::{DecodeError, Found, decode};
+use sheets::check::{CheckError, check};
+use writer::writer::{SheetError, decode_sheet};
 
-// n outputs, memory m, and room for four generators, of which the first n count.
+// n outputs, memory m, and room for four generators, of which the first n count. (A twin of the table's own `Code`, laid out as C does: C
+// interface.)
 #[repr(C)]
 #[derive(Clone, Copy)]
 pub struct Code {
@@ -32,8 +31,9 @@ pub struct Code {
 }
 
 // What an operation hands back: the paper's number, then the metric, the steps and a length; what has no meaning there is 0.
+// (A number and values in place of a `Result`: C interface.)
 #[repr(C)]
-#[derive(Clone, Copy)]
+#[derive(Clone, Copy, Default)]
 pub struct Answer {
     pub number: u32,
     pub metric: u32,
@@ -42,6 +42,7 @@ pub struct Answer {
 }
 
 // A front end: the form, and the numbers of all forms. Those that the form lacks are ignored.
+// (A number of the form in place of an enum: C interface.)
 #[repr(C)]
 #[derive(Clone, Copy)]
 pub struct FrontEnd {
@@ -52,9 +53,9 @@ pub struct FrontEnd {
 }
 
 // What the front end hands back: the paper's number, how many symbols were written, the index of a reading that is not finite, and the
-// report.
+// report. (A number and values in place of a `Result`: C interface.)
 #[repr(C)]
-#[derive(Clone, Copy)]
+#[derive(Clone, Copy, Default)]
 pub struct Report {
     pub number: u32,
     pub count: u32,
@@ -67,25 +68,26 @@ pub struct Report {
 pub fn plumtassel_house(row: usize) -> Code
     ensures { result ≡ face_code (house_code row) }
 {
-    let code = house(row);
-    let generators = code.generators;
-    Code {
-        outputs: code.outputs,
-        memory: code.memory,
-        generators,
-    }
+    house(row).into()
 }
 
 // Encodes a message of bits, one a byte, with the zero tail.
+#[tactic(auto, using(codes::proofs::Rules::symbols_few, crate::proofs::Told::encoder_told), unfolding(codes::specs::Encoding::encoding))]
 pub fn plumtassel_encode(code: Code, message: &[u8], out: &mut [u8]) -> Answer
     ensures { (result, out.new) ≡ encoded (encoding (code_of code) message.now out.old) }
 {
-    let answer = encode(opened(code), message, out);
-    encoder_answer(answer)
+    match encode(code.into(), message, out) {
+        Ok(symbols) => Answer {
+            length: symbols as u32,
+            ..Answer::default()
+        },
+        Err(error) => error.into(),
+    }
 }
 
 // Decodes a block: the message that alone has the least metric, or the refusal that node order says. Of the working memory only its size
 // counts.
+#[tactic(auto, using(crate::proofs::Told::decoder_told))]
 pub fn plumtassel_decode(
     code: Code,
     length: usize,
@@ -98,19 +100,18 @@ pub fn plumtassel_decode(
     ensures { (result, message.new)
         ≡ decoded (decoding (code_of code) length symbols.now room allowance (len work.old) message.old) }
 {
-    let answer = decode(
-        opened(code),
-        length,
-        symbols,
-        room,
-        allowance,
-        work,
-        message,
-    );
-    decoder_answer(answer)
+    match decode(code.into(), length, symbols, room, allowance, work, message) {
+        Ok(Found { metric, steps }) => Answer {
+            metric,
+            steps,
+            ..Answer::default()
+        },
+        Err(error) => error.into(),
+    }
 }
 
 // The same, and the honest sheet of the answer.
+#[tactic(auto, using(crate::proofs::Told::decoder_told, crate::proofs::Sheet::sheeting_most), unfolding(writer::specs::Sheeting::told))]
 pub fn plumtassel_decode_sheet(
     code: Code,
     length: usize,
@@ -124,8 +125,8 @@ pub fn plumtassel_decode_sheet(
     ensures { (result, message.new, sheet.new)
         ≡ sheeted (sheeting (code_of code) length symbols.now room allowance (len work.old) message.old sheet.old) }
 {
-    let answer = decode_sheet(
-        opened(code),
+    match decode_sheet(
+        code.into(),
         length,
         symbols,
         room,
@@ -133,11 +134,25 @@ pub fn plumtassel_decode_sheet(
         work,
         message,
         sheet,
-    );
-    sheet_answer(answer)
+    ) {
+        Ok(found) => Answer {
+            metric: found.metric,
+            steps: found.steps,
+            length: found.bytes as u32,
+            ..Answer::default()
+        },
+        // Here and not in a `From<SheetError>`: that the bytes fit 32 bits is known only here.
+        Err(SheetError::Decode(error)) => error.into(),
+        Err(SheetError::NoSheetRoom { bytes }) => Answer {
+            number: 9,
+            length: bytes as u32,
+            ..Answer::default()
+        },
+    }
 }
 
 // Checks a sheet for a block: accepted, its message is the only one of least metric.
+#[tactic(auto, using(crate::proofs::Told::check_told))]
 pub fn plumtassel_check(
     code: Code,
     length: usize,
@@ -148,114 +163,129 @@ pub fn plumtassel_check(
     ensures { (result, message.new)
         ≡ checked (checking (code_of code) length symbols.now sheet.now message.old) }
 {
-    let answer = check(opened(code), length, symbols, sheet, message);
-    check_answer(answer)
+    match check(code.into(), length, symbols, sheet, message) {
+        Ok(least) => Answer {
+            metric: least,
+            ..Answer::default()
+        },
+        Err(error) => error.into(),
+    }
 }
 
 // A block of readings to symbols, one each, with the report.
+#[tactic(auto, using(crate::proofs::Front::zero_gain), unfolding(front::specs::Fronting::told, front::specs::Fronting::fronting, crate::specs::Fronts::struct_fronting))]
 pub fn plumtassel_front(front_end: FrontEnd, readings: &[f32], symbols: &mut [i8]) -> Report
     ensures { (result, symbols.new) ≡ reported (struct_fronting front_end readings.now symbols.old) }
 {
-    let answer = front(chosen(front_end), readings, symbols);
-    front_report(answer)
+    match front(front_end.into(), readings, symbols) {
+        Ok(Fronted { count, report }) => Report {
+            count: count as u32,
+            lowest: report.lowest,
+            highest: report.highest,
+            ..Report::default()
+        },
+        // (Here and not in a `From<FrontError>`: that the index fits its 32 bits is known only here.)
+        Err(FrontError::BadSize) => Report {
+            number: 2,
+            ..Report::default()
+        },
+        Err(FrontError::Malformed) => Report {
+            number: 6,
+            ..Report::default()
+        },
+        Err(FrontError::NotFinite { index }) => Report {
+            number: 8,
+            index: index as u32,
+            ..Report::default()
+        },
+    }
 }
 
 // The caller's code as the operations take it.
-fn opened(code: Code) -> codes::table::Code
-    ensures { result ≡ code_of code }
-{
-    let generators = code.generators;
-    codes::table::Code {
-        outputs: code.outputs,
-        memory: code.memory,
-        generators,
+impl From<Code> for codes::table::Code {
+    ghost from_gives = { λ code inner. inner ≡ code_of code };
+
+    fn from(code: Code) -> codes::table::Code {
+        let Code {
+            outputs,
+            memory,
+            generators,
+        } = code;
+        codes::table::Code {
+            outputs,
+            memory,
+            generators,
+        }
     }
 }
 
-// The answer of `encode` as the caller takes it.
-fn encoder_answer(answer: Encoded) -> Answer
-    requires { (encoder_answer answer).length ≤ longest_block }
-    ensures { result ≡ encoder_answer answer }
-{
-    match answer {
-        Encoded::Done(symbols) => Answer {
-            number: 0,
-            metric: 0,
-            steps: 0,
-            length: symbols as u32,
-        },
-        Encoded::BadCode => refused(1),
-        Encoded::BadSize => refused(2),
-        Encoded::Malformed => refused(6),
+// And back.
+impl From<codes::table::Code> for Code {
+    ghost from_gives = { λ code outer. outer ≡ face_code code };
+
+    fn from(code: codes::table::Code) -> Code {
+        let codes::table::Code {
+            outputs,
+            memory,
+            generators,
+        } = code;
+        Code {
+            outputs,
+            memory,
+            generators,
+        }
     }
 }
 
-// The answer of `decode` as the caller takes it.
-fn decoder_answer(answer: Decoded) -> Answer
-    ensures { result ≡ decoder_answer answer }
-{
-    match answer {
-        Decoded::Done { metric, steps } => answered(0, metric, steps),
-        Decoded::BadCode => refused(1),
-        Decoded::BadSize => refused(2),
-        Decoded::NoRoom { steps } => answered(3, 0, steps),
-        Decoded::NoAllowance { steps } => answered(4, 0, steps),
-        Decoded::Tied { metric, steps } => answered(5, metric, steps),
+// A refusal of `encode` as the caller takes it.
+impl From<EncodeError> for Answer {
+    ghost from_gives = { λ error answer. answer ≡ encoder_answer (Err error) };
+
+    fn from(error: EncodeError) -> Answer {
+        match error {
+            EncodeError::BadCode => refused(1),
+            EncodeError::BadSize => refused(2),
+            EncodeError::Malformed => refused(6),
+        }
     }
 }
 
-// The answer of `decode_sheet` as the caller takes it.
-fn sheet_answer(answer: DecodedSheet) -> Answer
-    requires { (sheet_answer answer).length ≤ longest_sheet }
-    ensures { result ≡ sheet_answer answer }
-{
-    match answer {
-        DecodedSheet::Done {
-            metric,
-            steps,
-            bytes,
-        } => Answer {
-            number: 0,
-            metric,
-            steps,
-            length: bytes as u32,
-        },
-        DecodedSheet::BadCode => refused(1),
-        DecodedSheet::BadSize => refused(2),
-        DecodedSheet::NoRoom { steps } => answered(3, 0, steps),
-        DecodedSheet::NoAllowance { steps } => answered(4, 0, steps),
-        DecodedSheet::Tied { metric, steps } => answered(5, metric, steps),
-        DecodedSheet::NoSheetRoom { bytes } => Answer {
-            number: 9,
-            metric: 0,
-            steps: 0,
-            length: bytes as u32,
-        },
+// A refusal of `decode`.
+impl From<DecodeError> for Answer {
+    ghost from_gives = { λ error answer. answer ≡ decoder_answer (Err error) };
+
+    fn from(error: DecodeError) -> Answer {
+        match error {
+            DecodeError::BadCode => refused(1),
+            DecodeError::BadSize => refused(2),
+            DecodeError::NoRoom { steps } => Answer {
+                steps,
+                ..refused(3)
+            },
+            DecodeError::NoAllowance { steps } => Answer {
+                steps,
+                ..refused(4)
+            },
+            DecodeError::Tied { metric, steps } => Answer {
+                metric,
+                steps,
+                ..refused(5)
+            },
+        }
     }
 }
 
-// The answer of `check` as the caller takes it.
-fn check_answer(answer: Checked) -> Answer
-    ensures { result ≡ check_answer answer }
-{
-    match answer {
-        Checked::Accepted(metric) => answered(0, metric, 0),
-        Checked::BadCode => refused(1),
-        Checked::BadSize => refused(2),
-        Checked::Malformed => refused(6),
-        Checked::NotCarried => refused(7),
-    }
-}
+// A refusal of `check`.
+impl From<CheckError> for Answer {
+    ghost from_gives = { λ error answer. answer ≡ check_answer (Err error) };
 
-// An answer with a metric and steps.
-fn answered(number: u32, metric: u32, steps: u32) -> Answer
-    ensures { result ≡ search_answer number metric steps }
-{
-    Answer {
-        number,
-        metric,
-        steps,
-        length: 0,
+    fn from(error: CheckError) -> Answer {
+        match error {
+            CheckError::BadCode => refused(1),
+            CheckError::BadSize => refused(2),
+            CheckError::Malformed => refused(6),
+            CheckError::NotCarried => refused(7),
+        }
     }
 }
 
@@ -265,56 +295,24 @@ fn refused(number: u32) -> Answer
 {
     Answer {
         number,
-        metric: 0,
-        steps: 0,
-        length: 0,
+        ..Answer::default()
     }
 }
 
-// The front end of a form. A form above 2 becomes a gain of zero, which is refused 6 at the same place.
-fn chosen(front_end: FrontEnd) -> front::FrontEnd
-    ensures { result ≡ choice front_end }
-{
-    let form = front_end.form;
-    match form {
-        0 => front::FrontEnd::Gain(front_end.gain),
-        1 => front::FrontEnd::Offset {
-            offset: front_end.offset,
-            gain: front_end.gain,
-        },
-        2 => front::FrontEnd::Threshold(front_end.threshold),
-        _ => front::FrontEnd::Gain(0.0),
-    }
-}
+// The front end of a form. A form above 2 becomes a gain of zero, which is refused 6 at the same place. (No `TryFrom`: the sizes are
+// refused first, as `struct_fronting` says.)
+impl From<FrontEnd> for front::FrontEnd {
+    ghost from_gives = { λ front_end chosen. chosen ≡ choice front_end };
 
-// The answer of `front` as the caller takes it.
-fn front_report(answer: Fronted) -> Report
-    requires { Small (front_report answer) }
-    ensures { result ≡ front_report answer }
-{
-    match answer {
-        Fronted::Done { count, report } => Report {
-            number: 0,
-            count: count as u32,
-            index: 0,
-            lowest: report.lowest,
-            highest: report.highest,
-        },
-        Fronted::BadSize => refused_reading(2, 0),
-        Fronted::Malformed => refused_reading(6, 0),
-        Fronted::NotFinite { index } => refused_reading(8, index as u32),
-    }
-}
-
-// A refusal with its number and an index.
-fn refused_reading(number: u32, index: u32) -> Report
-    ensures { result ≡ refused_reading number index }
-{
-    Report {
-        number,
-        count: 0,
-        index,
-        lowest: 0.0,
-        highest: 0.0,
+    fn from(front_end: FrontEnd) -> front::FrontEnd {
+        match front_end.form {
+            0 => front::FrontEnd::Gain(front_end.gain),
+            1 => front::FrontEnd::Offset {
+                offset: front_end.offset,
+                gain: front_end.gain,
+            },
+            2 => front::FrontEnd::Threshold(front_end.threshold),
+            _ => front::FrontEnd::Gain(0.0),
+        }
     }
 }

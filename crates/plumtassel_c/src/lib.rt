@@ -1,5 +1,5 @@
 // The C face as C calls it: a static library whose exported functions call those of the same names in `plumtassel` and state their
-// clauses again. include/plumtassel.h declares them for C.
+// clauses again (twins, since only a static library exports: C interface). include/plumtassel.h declares them for C.
 #![tactic(auto)]
 
 ghost use Rattle.std.specs.Prelude.{◌≡◌, length as len};

@@ -6,14 +6,16 @@ use mathlib.Core.Bool.{true, false}
 use Prim.Native.Nat.{ℕ, zero, suc}
 use lib.IntN.{ℤ}
 use lib.ListN.{length}
+use Rattle.std.specs.Prelude.{Result, Ok, Err}
 use Rattle.codes.specs.Codes.{lawful}
 use Rattle.codes.specs.declared.table.Code.{Code}
 use Rattle.trellis.specs.Verdict.{verdict}
 use Rattle.blocks.specs.Symbols.{view}
 use Rattle.blocks.specs.Blocks.{trellis_of}
 use Rattle.search.specs.Decoding.{Decoding, handed, told, sizes_fit, given, decoding}
-use Rattle.search.specs.declared.decoder.Decoded.{Decoded}
-use Rattle.search.specs.declared.decoder.Decoded.TheVariants.{Done, BadCode, BadSize, NoRoom, NoAllowance, Tied}
+use Rattle.search.specs.declared.decoder.Found.{Found}
+use Rattle.search.specs.declared.decoder.DecodeError.{DecodeError}
+use Rattle.search.specs.declared.decoder.DecodeError.TheVariants.{BadCode, BadSize, NoRoom, NoAllowance, Tied}
 
 -- ---- the rows
 
@@ -38,41 +40,41 @@ module _ (c : Code) (l : ℕ) (symbols : List ℤ) (room allowance words : ℕ) 
 -- ---- pinned down
 
 -- the answer, read back off the paper's number and values
-answer_of : Decoding → Decoded
+answer_of : Decoding → Result Found DecodeError
 answer_of d = read d.number d.metric d.steps
   where
-    read : ℕ → ℕ → ℕ → Decoded
-    read zero metric steps = Done metric steps
-    read (suc zero) metric steps = BadCode
-    read (suc (suc zero)) metric steps = BadSize
-    read (suc (suc (suc zero))) metric steps = NoRoom steps
-    read (suc (suc (suc (suc zero)))) metric steps = NoAllowance steps
-    read (suc (suc (suc (suc (suc k))))) metric steps = Tied metric steps
+    read : ℕ → ℕ → ℕ → Result Found DecodeError
+    read zero metric steps = Ok (record { metric = metric; steps = steps })
+    read (suc zero) metric steps = Err BadCode
+    read (suc (suc zero)) metric steps = Err BadSize
+    read (suc (suc (suc zero))) metric steps = Err (NoRoom steps)
+    read (suc (suc (suc (suc zero)))) metric steps = Err (NoAllowance steps)
+    read (suc (suc (suc (suc (suc k))))) metric steps = Err (Tied metric steps)
 
 -- so answers that are told alike are the same
-answer_of_told : (r : Decoded) (message : List ℕ) → answer_of (told r message) ≡ r
+answer_of_told : (r : Result Found DecodeError) (message : List ℕ) → answer_of (told r message) ≡ r
 unfolding told answer_of
-answer_of_told (Done metric steps) message = refl
-answer_of_told BadCode message = refl
-answer_of_told BadSize message = refl
-answer_of_told (NoRoom steps) message = refl
-answer_of_told (NoAllowance steps) message = refl
-answer_of_told (Tied metric steps) message = refl
+answer_of_told (Ok found) message = refl
+answer_of_told (Err BadCode) message = refl
+answer_of_told (Err BadSize) message = refl
+answer_of_told (Err (NoRoom steps)) message = refl
+answer_of_told (Err (NoAllowance steps)) message = refl
+answer_of_told (Err (Tied metric steps)) message = refl
 
 -- and the buffer is told as it is
-message_told : (r : Decoded) (message : List ℕ) → (told r message).message ≡ message
+message_told : (r : Result Found DecodeError) (message : List ℕ) → (told r message).message ≡ message
 unfolding told
-message_told (Done metric steps) message = refl
-message_told BadCode message = refl
-message_told BadSize message = refl
-message_told (NoRoom steps) message = refl
-message_told (NoAllowance steps) message = refl
-message_told (Tied metric steps) message = refl
+message_told (Ok found) message = refl
+message_told (Err BadCode) message = refl
+message_told (Err BadSize) message = refl
+message_told (Err (NoRoom steps)) message = refl
+message_told (Err (NoAllowance steps)) message = refl
+message_told (Err (Tied metric steps)) message = refl
 
 -- Two results that the contract of `decode` allows for one input are equal: the answer and every byte of the message buffer. The two
 -- calls may be lent working memory that holds different words, if only there are as many.
 pub decode_pinned : (c : Code) (l : ℕ) (symbols : List ℤ) (room allowance : ℕ) (message : List ℕ)
-    → (work work' : List ℕ) → length work ≡ length work' → (r r' : Decoded) (exit exit' : List ℕ)
+    → (work work' : List ℕ) → length work ≡ length work' → (r r' : Result Found DecodeError) (exit exit' : List ℕ)
     → told r exit ≡ decoding c l symbols room allowance (length work) message
     → told r' exit' ≡ decoding c l symbols room allowance (length work') message
     → (r ≡ r') × (exit ≡ exit')

@@ -6,6 +6,6 @@ pub mod Halting
 pub mod Sizes
 pub mod Decodings
 pub mod Answers
+pub mod Refusals
 pub mod Refused
 pub mod Settling
-pub mod Refusals

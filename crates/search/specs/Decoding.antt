@@ -1,6 +1,6 @@
 -- What `decode` answers and writes, for every input: document 01, 'When the desk says no' and 'Node order'.
 -- Believed, after Codes, Symbols, Blocks, Trellis and Verdict. Assumes nothing.
-use Rattle.std.specs.Prelude.{List, ◌++◌, Bool, cond, not, ◌&&◌, ℕ, ◌*◌, eqb, leb, ℤ, length, drop}
+use Rattle.std.specs.Prelude.{List, ◌++◌, Bool, cond, not, ◌&&◌, ℕ, ◌*◌, eqb, leb, ℤ, length, drop, Result, Ok, Err}
 use Rattle.codes.specs.Limits.{shortest_message, longest_message}
 use Rattle.codes.specs.Codes.{from, lawful, block_length}
 use Rattle.codes.specs.declared.table.Code.{Code}
@@ -8,8 +8,9 @@ use Rattle.trellis.specs.Verdict.{Verdict, answered, room_short, allowance_spent
 use Rattle.blocks.specs.Symbols.{view}
 use Rattle.blocks.specs.Blocks.{trellis_of}
 use Rattle.search.specs.Limits.{largest_room, words_per_node}
-use Rattle.search.specs.declared.decoder.Decoded.{Decoded}
-use Rattle.search.specs.declared.decoder.Decoded.TheVariants.{Done, BadCode, BadSize, NoRoom, NoAllowance, Tied}
+use Rattle.search.specs.declared.decoder.Found.{Found}
+use Rattle.search.specs.declared.decoder.DecodeError.{DecodeError}
+use Rattle.search.specs.declared.decoder.DecodeError.TheVariants.{BadCode, BadSize, NoRoom, NoAllowance, Tied}
 
 -- What is handed back: the paper's number ('No.'), metric and steps ('Handed back'), and the message buffer as it is then.
 pub record Decoding : Type 0 where
@@ -23,13 +24,13 @@ abbrev pub handed : (number metric steps : ℕ) (message : List ℕ) → Decodin
 handed number metric steps message = record { number = number; metric = metric; steps = steps; message = message }
 
 -- 'For each case of an enum answer, a definition gives this paper's number and values'; 'Values not named in a row are 0.'
-unfoldable pub told : Decoded → List ℕ → Decoding
-told (Done metric steps) message = handed 0 metric steps message
-told BadCode message = handed 1 0 0 message
-told BadSize message = handed 2 0 0 message
-told (NoRoom steps) message = handed 3 0 steps message
-told (NoAllowance steps) message = handed 4 0 steps message
-told (Tied metric steps) message = handed 5 metric steps message
+unfoldable pub told : Result Found DecodeError → List ℕ → Decoding
+told (Ok found) message = handed 0 found.metric found.steps message
+told (Err BadCode) message = handed 1 0 0 message
+told (Err BadSize) message = handed 2 0 0 message
+told (Err (NoRoom steps)) message = handed 3 0 steps message
+told (Err (NoAllowance steps)) message = handed 4 0 steps message
+told (Err (Tied metric steps)) message = handed 5 metric steps message
 
 -- All sizes are as stated; else 2: 'L, R or a block length not as stated; an output buffer .. too short; working memory too small'.
 -- 'Symbols must number exactly N', and memory is too small 'exactly when it holds less than R nodes need by a fixed size per node'.

@@ -1,25 +1,33 @@
 // The decoder.
-ghost use Rattle.std.specs.Prelude.{◌≡◌, true, length as len};
-ghost use Rattle.codes.specs.Codes.{lawful};
+ghost use Rattle.std.specs.Prelude.{◌≡◌, length as len};
 ghost use Rattle.search.specs.Decoding.{told, sizes_fit, decoding};
-ghost use Rattle.search.specs.Work.{trellis_in, Sized, Lent};
+ghost use Rattle.search.specs.Work.{trellis_under, Lent};
 ghost use Rattle.search.specs.Settling.{Searches, Settles};
 
-use crate::run::{Reached, run};
+use crate::run::{Terminal, run};
 use crate::trace::trace;
+use blocks::branches::Block;
 use blocks::view::see;
 use codes::limits::{LONGEST_BLOCK, LONGEST_MESSAGE, SHORTEST_MESSAGE};
-use codes::table::{Code, keeps_rules};
+use codes::table::{Code, Machine};
+use std::error::Error;
+use std::fmt;
+use store::Nodes;
 
 const LARGEST_ROOM: usize = 4096;
 
 const WORDS_PER_NODE: usize = 3;
 
-// What `decode` answers: the message is written, with its metric and the steps that it took; or a refusal, in the order of the paper's
-// numbers 1 to 5, with the steps that were done, and with the least metric where it is known.
-#[derive(Clone, Copy)]
-pub enum Decoded {
-    Done { metric: u32, steps: u32 },
+// What `decode` answers when the message is written: the least metric, and the steps that it took.
+#[derive(Clone, Copy, Debug, PartialEq, Eq)]
+pub struct Found {
+    pub metric: u32,
+    pub steps: u32,
+}
+
+// A refusal, in the order of the paper's numbers 1 to 5, with the steps that were done, and with the least metric where it is known.
+#[derive(Clone, Copy, Debug, PartialEq, Eq)]
+pub enum DecodeError {
     BadCode,
     BadSize,
     NoRoom { steps: u32 },
@@ -27,17 +35,33 @@ pub enum Decoded {
     Tied { metric: u32, steps: u32 },
 }
 
-// What a decode came to before anything is written: its answer, how many rows the working memory shows, and, where the message is
-// found, the row of the terminal.
-#[derive(Clone, Copy)]
+impl fmt::Display for DecodeError {
+    fn fmt<W: fmt::Write>(&self, f: &mut fmt::Formatter<W>) -> fmt::Result {
+        match self {
+            DecodeError::BadCode => write!(f, "1 code outside the rules"),
+            DecodeError::BadSize => write!(f, "2 a length not as stated"),
+            DecodeError::NoRoom { steps } => write!(f, "3 room, steps {steps}"),
+            DecodeError::NoAllowance { steps } => write!(f, "4 allowance, steps {steps}"),
+            DecodeError::Tied { metric, steps } => write!(
+                f,
+                "5 tied, metric {metric}, steps {steps}"
+            ),
+        }
+    }
+}
+
+impl Error for DecodeError {}
+
+// What a decode found before anything is written: its answer, and the row of the terminal.
+#[derive(Clone, Copy, Debug, PartialEq, Eq)]
 pub struct Settled {
-    pub decoded: Decoded,
-    pub rows: usize,
+    pub found: Found,
     pub row: usize,
 }
 
 // Decodes a block: the message that alone has the least metric, or the refusal that node order says. On a refusal the message buffer
-// is untouched. The working memory, three words a node, may be overwritten; no answer depends on what it held.
+// is untouched. The working memory, three words a node, may be overwritten; no answer depends on what it held. (The parameters one by one,
+// as C has them: with a struct of them the contract would read `block.now.symbols.now` for `symbols.now`, no plainer.)
 pub fn decode(
     code: Code,
     length: usize,
@@ -46,135 +70,93 @@ pub fn decode(
     allowance: u32,
     work: &mut [u64],
     message: &mut [u8],
-) -> Decoded
+) -> Result<Found, DecodeError>
     ensures { told result message.new
         ≡ decoding code length symbols.now room allowance (len work.old) message.old }
 {
-    let settled = settle(code, length, symbols, room, allowance, work, message.len());
-    let decoded = settled.decoded;
-    let Decoded::Done { metric, steps } = decoded else {
-        return decoded;
-    };
-    let last = (length as u64) + code.memory as u64;
-    trace(
-        work,
-        settled.rows,
-        last,
-        settled.row,
-        length as u64,
-        message,
-    );
-    Decoded::Done { metric, steps }
+    let mut nodes = Nodes::new(work);
+    let Settled { found, row } = settle(
+        code,
+        length,
+        symbols,
+        room,
+        allowance,
+        &mut nodes,
+        message.len(),
+    )?;
+    trace(&nodes, length + code.memory as usize, row, length, message);
+    Ok(found)
 }
 
-// The tests and the search of a decode, for a message buffer of a given length. Where the message is found, `trace` writes it.
+// The tests and the search of a decode, for a message buffer of a given length. Where the message is found, `trace` writes it. (The
+// parameters are those of `decode`.)
+#[tactic(auto, using(codes::proofs::Machines::machine_none, codes::proofs::Machines::machine_code, crate::proofs::Settling::refused_bad_code, crate::proofs::Settling::refused_bad_size))]
 pub fn settle(
     code: Code,
     length: usize,
     symbols: &[i8],
     room: usize,
     allowance: u32,
-    work: &mut [u64],
+    nodes: &mut Nodes<'_>,
     buffer: usize,
-) -> Settled
-    ensures { Settles code length symbols.now room allowance work.old buffer work.new result }
+) -> Result<Settled, DecodeError>
+    ensures { Settles code length symbols.now room allowance nodes.old buffer nodes.new result }
 {
-    if !keeps_rules(code) {
-        return Settled {
-            decoded: Decoded::BadCode,
-            rows: 0,
-            row: 0,
-        };
+    let machine = Machine::new(code).ok_or(DecodeError::BadCode)?;
+    if !sizes_fit(machine, length, symbols.len(), room, nodes.words(), buffer) {
+        return Err(DecodeError::BadSize);
     }
-    if !sizes_fit(code, length, symbols.len(), room, work.len(), buffer) {
-        return Settled {
-            decoded: Decoded::BadSize,
-            rows: 0,
-            row: 0,
-        };
-    }
+    // Fixed memory, no heap: room for the longest block.
     let mut seen = [0u16; LONGEST_BLOCK];
     see(symbols, &mut seen);
-    let count = symbols.len();
-    search(code, length, &seen[..count], room, allowance, work)
+    let block = Block::new(machine, length as u64, &seen[..symbols.len()]);
+    search(&block, room, allowance, nodes)
 }
 
-// Whether all lengths are as stated. Nothing is multiplied before it is tested.
+// Whether all lengths are as stated. Nothing is multiplied before it is tested. (Not one with the check's: each definition has its own sizes
+// and its own order.)
 fn sizes_fit(
-    code: Code,
+    machine: Machine,
     length: usize,
     symbols: usize,
     room: usize,
     words: usize,
     message: usize,
 ) -> bool
-    requires { lawful code ≡ true }
-    ensures { result ≡ sizes_fit code length symbols room words message }
+    ensures { result ≡ sizes_fit machine.code length symbols room words message }
 {
-    if length < SHORTEST_MESSAGE {
-        return false;
-    }
-    if LONGEST_MESSAGE < length {
-        return false;
-    }
-    if LARGEST_ROOM < room {
-        return false;
-    }
-    if symbols != (code.outputs as usize) * (length + code.memory as usize) {
-        return false;
-    }
-    if message < length {
-        return false;
-    }
-    WORDS_PER_NODE * room <= words
+    (SHORTEST_MESSAGE..=LONGEST_MESSAGE).contains(&length)
+        && room <= LARGEST_ROOM
+        && symbols == machine.code.outputs as usize * (length + machine.code.memory as usize)
+        && length <= message
+        && WORDS_PER_NODE * room <= words
 }
 
-// The search over the block as it was seen, and its answer.
+// The search over a block: the terminal if its least path is alone, else a tie.
 fn search(
-    code: Code,
-    length: usize,
-    seen: &[u16],
+    block: &Block<'_>,
     room: usize,
     allowance: u32,
-    work: &mut [u64],
-) -> Settled
-    requires fact_1 { Sized code length seen.now }
-    requires fact_2 { Lent room work.old }
-    ensures { Searches (trellis_in code length seen.now) room allowance work.old work.new result }
+    nodes: &mut Nodes<'_>,
+) -> Result<Settled, DecodeError>
+    requires { Lent room nodes.old }
+    ensures { Searches (trellis_under block.now) room allowance nodes.old nodes.new result }
 {
-    let halt = run(code, length as u64, seen, room, allowance, work);
-    let rows = halt.rows;
-    let reached = halt.reached;
-    match reached {
-        Reached::Full(steps) => Settled {
-            decoded: Decoded::NoRoom { steps },
-            rows,
-            row: 0,
-        },
-        Reached::Spent(steps) => Settled {
-            decoded: Decoded::NoAllowance { steps },
-            rows,
-            row: 0,
-        },
-        Reached::Terminal {
-            metric,
-            steps,
-            count,
-            row,
-        } => {
-            let metric = metric as u32;
-            if 1 < count {
-                return Settled {
-                    decoded: Decoded::Tied { metric, steps },
-                    rows,
-                    row,
-                };
-            }
-            Settled {
-                decoded: Decoded::Done { metric, steps },
-                rows,
-                row,
-            }
-        }
+    if room == 0 {
+        return Err(DecodeError::NoRoom { steps: 0 });
     }
+    let Terminal {
+        metric,
+        steps,
+        count,
+        row,
+    } = run(block, nodes, room, allowance)?;
+    let metric = metric as u32;
+    if 1 < count {
+        return Err(DecodeError::Tied { metric, steps });
+    }
+    Ok(Settled {
+        found: Found { metric, steps },
+        row,
+    })
 }

@@ -1,94 +1,63 @@
 // The run of the search.
-ghost use Rattle.std.specs.Prelude.{◌≡◌};
+ghost use Rattle.std.specs.Prelude.{◌≡◌, ◌<◌};
 ghost use Rattle.trellis.specs.Trellis.{node, same};
 ghost use Rattle.trellis.specs.Search.{searched};
 ghost use Rattle.store.specs.Memory.{row_of};
-ghost use Rattle.search.specs.Work.{cap, trellis_in, Searchable, Lent, Halts};
+ghost use Rattle.search.specs.Work.{cap, trellis_under, Lent, Halts};
 
+use crate::decoder::DecodeError;
 use crate::step::expand;
-use codes::table::Code;
-use store::{Held, first_open, row, start};
+use blocks::branches::Block;
+use store::{Held, Nodes};
 
-// How the search ended: at the terminal, with its cost, the steps, the count of its least paths and its row; without room for the step
-// after these; with the allowance spent.
-#[derive(Clone, Copy)]
-pub enum Reached {
-    Terminal {
-        metric: u64,
-        steps: u32,
-        count: u64,
-        row: usize,
-    },
-    Full(u32),
-    Spent(u32),
+// The terminal where the search ended: its cost, the steps until then, the count of its least paths, and its row.
+#[derive(Clone, Copy, Debug, PartialEq, Eq)]
+pub struct Terminal {
+    pub metric: u64,
+    pub steps: u32,
+    pub count: u64,
+    pub row: usize,
 }
 
-// And how many rows the memory then shows.
-#[derive(Clone, Copy)]
-pub struct Halt {
-    pub rows: usize,
-    pub reached: Reached,
-}
-
-// Whether a row's node is the terminal: the last level, state 0.
+// Whether a row's node is the terminal: the last level, state 0. (Two numbers: a `Held` holds no node that could be compared whole.)
 fn is_terminal(row: Held, last: u64) -> bool
     ensures { result ≡ same (row_of row).entry.node (node last 0) }
 {
     row.level == last && row.state == 0
 }
 
-// The first open node is expanded, in node order, until it is the terminal, room is short or the allowance is spent.
+// The first open node is expanded, in node order, until it is the terminal, room is short or the allowance is spent. There is room
+// for the origin.
 pub fn run(
-    code: Code,
-    bits: u64,
-    seen: &[u16],
+    block: &Block<'_>,
+    nodes: &mut Nodes<'_>,
     room: usize,
     allowance: u32,
-    work: &mut [u64],
-) -> Halt
-    requires fact_1 { Searchable code bits seen.now }
-    requires fact_2 { Lent room work.old }
-    ensures { Halts work.old work.new room result
-        (searched (trellis_in code bits seen.now) cap room allowance) }
+) -> Result<Terminal, DecodeError>
+    requires lent { Lent room nodes.old }
+    requires some { 0 < room }
+    ensures { Halts nodes.old nodes.new room result (searched (trellis_under block.now) cap room allowance) }
 {
-    if room == 0 {
-        return Halt {
-            rows: 0,
-            reached: Reached::Full(0),
-        };
-    }
-    start(work);
-    let last = bits + code.memory as u64;
-    let mut rows = 1usize;
+    nodes.start();
+    let last = block.top();
     let mut steps = 0u32;
+    // No `for` over the steps: after the last one allowed, the terminal is asked for once more.
     loop {
-        let i = first_open(work, rows);
-        let first = row(work, rows, i);
+        // Some node is always open, since the terminal is never expanded.
+        let i = nodes.first_open().unwrap();
+        let first = nodes.row(i);
         if is_terminal(first, last) {
-            return Halt {
-                rows,
-                reached: Reached::Terminal {
-                    metric: first.cost,
-                    steps,
-                    count: first.count,
-                    row: i,
-                },
-            };
+            return Ok(Terminal {
+                metric: first.cost,
+                steps,
+                count: first.count,
+                row: i,
+            });
         }
         if steps == allowance {
-            return Halt {
-                rows,
-                reached: Reached::Spent(steps),
-            };
+            return Err(DecodeError::NoAllowance { steps });
         }
-        let tally = expand(code, bits, seen, work, rows, room, i);
-        if tally.full {
-            return Halt {
-                rows: tally.rows,
-                reached: Reached::Full(steps),
-            };
-        }
-        rows = tally.rows;
+        expand(block, nodes, room, i).map_err(|_| DecodeError::NoRoom { steps })?;
         steps += 1;
     }
 }

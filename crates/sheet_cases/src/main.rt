@@ -5,146 +5,79 @@ mod given;
 
 use crate::given::{BLOCK, FAR, SHEET, TIED};
 use codes::table::house;
-use sheets::check::{Checked, check};
-use show::{count, digits, text, word};
+use sheets::check::{CheckError, check};
+use show::Digits;
 use std::io;
 
-const MASKS: [u8; 8] = [128, 64, 32, 16, 8, 4, 2, 1];
-
 fn main(rt: HostRuntime) -> io::Result<()> {
-    let block = BLOCK;
-    let sheet = SHEET;
-    line(
-        &rt,
-        b"14  the sheet of case 4                      ",
-        &block,
-        &sheet,
-    )?;
-    line(
-        &rt,
-        b"14  its last byte missing                    ",
-        &block,
-        &sheet[..46],
-    )?;
     let mut dearer = SHEET;
     dearer[8] = 4;
-    line(
-        &rt,
-        b"14  its metric byte 04                       ",
-        &block,
-        &dearer,
-    )?;
     let mut longer = SHEET;
     longer[6] = 2;
-    line(
-        &rt,
-        b"    for another L                            ",
-        &block,
-        &longer,
-    )?;
-    misleading(&rt)?;
-    text(
-        &rt,
-        b"each bit of that sheet flipped, highest first: 0 accepted, 6 malformed, 7 not carried\n",
+    let mut beside = FAR;
+    beside[25] = 1;
+    let mut free = beside;
+    free[27..31].fill(0);
+    for (name, block, sheet) in [
+        ("14  the sheet of case 4", BLOCK, SHEET.as_slice()),
+        ("14  its last byte missing", BLOCK, &SHEET[..46]),
+        ("14  its metric byte 04", BLOCK, &dearer),
+        ("    for another L", BLOCK, &longer),
+        ("    a node listed with cost 4294967295", BLOCK, &FAR),
+        ("    an unreachable node with that cost", BLOCK, &beside),
+        ("    an unreachable node with cost 0", BLOCK, &free),
+        ("    two messages tied", [0; 6], &TIED),
+    ] {
+        line(&rt, name, &block, sheet)?;
+    }
+    println!(rt;
+        "each bit of that sheet flipped, highest first: 0 accepted, 6 malformed, 7 not carried"
     )?;
     flips(&rt)
 }
 
-// Sheets with an entry more, and a tied block.
-fn misleading(rt: &impl Print) -> io::Result<()> {
-    let block = BLOCK;
-    let far = FAR;
-    line(
-        rt,
-        b"    a node listed with cost 4294967295       ",
-        &block,
-        &far,
-    )?;
-    let mut beside = FAR;
-    beside[25] = 1;
-    line(
-        rt,
-        b"    an unreachable node with that cost       ",
-        &block,
-        &beside,
-    )?;
-    beside[27] = 0;
-    beside[28] = 0;
-    beside[29] = 0;
-    beside[30] = 0;
-    line(
-        rt,
-        b"    an unreachable node with cost 0          ",
-        &block,
-        &beside,
-    )?;
-    let zeros = [0i8; 6];
-    let tied = TIED;
-    line(
-        rt,
-        b"    two messages tied                        ",
-        &zeros,
-        &tied,
-    )
-}
-
 // One sheet for code 7, 5 and L=1: the answer, and a message buffer of two places, each 9 before the call.
-fn line(rt: &impl Print, name: &[u8], block: &[i8], sheet: &[u8]) -> io::Result<()> {
-    text(rt, name)?;
-    let mut message = [9u8; 2];
+fn line(rt: &impl Print, name: &str, block: &[i8], sheet: &[u8]) -> io::Result<()> {
+    let mut message = [9; 2];
     let answer = check(house(0), 1, block, sheet, &mut message);
-    word(rt, number(answer))?;
-    text(rt, b", metric ")?;
-    word(rt, metric(answer))?;
-    text(rt, b", message ")?;
-    digits(rt, &message, 8)?;
-    text(rt, b"\n")
+    let metric = answer.unwrap_or(0);
+    let number = number(answer);
+    let message = Digits {
+        bytes: &message,
+        group: 8,
+    };
+    println!(rt; "{name:45}{number}, metric {metric}, message {message}")
 }
 
-fn number(answer: Checked) -> u32 {
+// The paper's numbers: what the program prints may not change.
+fn number(answer: Result<u32, CheckError>) -> u8 {
     match answer {
-        Checked::Accepted(_) => 0,
-        Checked::BadCode => 1,
-        Checked::BadSize => 2,
-        Checked::Malformed => 6,
-        Checked::NotCarried => 7,
-    }
-}
-
-fn metric(answer: Checked) -> u32 {
-    if let Checked::Accepted(m) = answer {
-        m
-    } else {
-        0
+        Ok(_) => 0,
+        Err(CheckError::BadCode) => 1,
+        Err(CheckError::BadSize) => 2,
+        Err(CheckError::Malformed) => 6,
+        Err(CheckError::NotCarried) => 7,
     }
 }
 
 // A line for each byte: the numbers for its eight flips.
 fn flips(rt: &impl Print) -> io::Result<()> {
-    let mut i = 0usize;
-    while i < 47 {
-        text(rt, b"byte ")?;
-        count(rt, i)?;
-        text(rt, b": ")?;
-        flipped(rt, i)?;
-        text(rt, b"\n")?;
-        i += 1;
+    for at in 0..SHEET.len() {
+        let numbers = [128, 64, 32, 16, 8, 4, 2, 1].map(|mask| flipped(at, mask));
+        let numbers = Digits {
+            bytes: &numbers,
+            group: 8,
+        };
+        println!(rt; "byte {at}: {numbers}")?;
     }
     Ok(())
 }
 
-fn flipped(rt: &impl Print, i: usize) -> io::Result<()> {
-    if 47 <= i {
-        return Ok(());
+// The number for the sheet with bits of one byte flipped.
+fn flipped(at: usize, mask: u8) -> u8 {
+    let mut sheet = SHEET;
+    if let Some(byte) = sheet.get_mut(at) {
+        *byte ^= mask;
     }
-    let mut k = 0usize;
-    while k < 8 {
-        let mut sheet = SHEET;
-        sheet[i] = sheet[i] ^ MASKS[k];
-        let block = BLOCK;
-        let mut message = [9u8; 1];
-        word(rt, number(check(house(0), 1, &block, &sheet, &mut message)))?;
-        k += 1;
-    }
-    Ok(())
+    number(check(house(0), 1, &BLOCK, &sheet, &mut [9]))
 }

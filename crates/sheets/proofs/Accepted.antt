@@ -9,6 +9,7 @@ use lib.IntN.{ℤ}
 use lib.ListN.{length, take, drop}
 use lib.Seq.{take_at}
 use Rattle.lists.proofs.Membership.{◌∈◌, nil_out, Every, every_cons}
+use Rattle.std.specs.Prelude.{Ok}
 use Rattle.codes.specs.declared.table.Code.{Code}
 use Rattle.codes.specs.Codes.{lawful}
 use Rattle.trellis.specs.Trellis.{Trellis}
@@ -20,7 +21,6 @@ use Rattle.blocks.specs.Blocks.{trellis_of}
 use Rattle.blocks.proofs.Closing.{trellis_lawful}
 use Rattle.sheets.specs.Bytes.{series, bit_at, sheet_read}
 use Rattle.sheets.specs.Checking.{formed, carried, Checking, handed, told, sizes_fit, checking}
-use Rattle.sheets.specs.declared.check.Checked.TheVariants.{Accepted}
 use Rattle.sheets.proofs.Series.{length_series}
 use Rattle.sheets.proofs.Rows.{checking_code, checking_size, checking_form, checking_claim, checking_accepted}
 
@@ -85,8 +85,8 @@ module _ (c : Code) (l : ℕ) (symbols : List ℤ) (bytes message : List ℕ) wh
       front : take l ((sheet_read l bytes).message ++ drop l message) ≡ (sheet_read l bytes).message
       front = take_at (sheet_read l bytes).message (drop l message) l (length_series l (bit_at bytes))
 
-  -- The same of the program's answer: where it is `Accepted m`, m is the least metric and the L bytes written are its only message.
-  pub accepted_alone : (m : ℕ) (exit : List ℕ) → told (Accepted m) exit ≡ answer → OnlyLeast t m (take l exit)
+  -- The same of the program's answer: where it is `Ok m`, m is the least metric and the L bytes written are its only message.
+  pub accepted_alone : (m : ℕ) (exit : List ℕ) → told (Ok m) exit ≡ answer → OnlyLeast t m (take l exit)
   unfolding told
   accepted_alone m exit e =
       subst₂ (OnlyLeast t) (ap (λ (x : Checking). x.metric) (sym e)) (ap (λ (x : Checking). take l x.message) (sym e))

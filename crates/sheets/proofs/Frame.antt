@@ -7,7 +7,10 @@ use native.Mathlib.Nat.{mod-one}
 use native.Mathlib.Decide.{ℕ_discrete}
 use native.Mathlib.Omega.{arith}
 use lib.ListN.{length, get_or, drop, drop_of_length-le}
+use mathlib.Core.Bool.{true}
+use Rattle.lists.proofs.Tests.{true_in}
 use Rattle.lists.proofs.Decides.{Decides, said, together, equal}
+use Rattle.codes.specs.Limits.{shortest_message, longest_message}
 use Rattle.trellis.specs.Verdict.{Entry}
 use Rattle.sheets.specs.Bytes.{series, bytes_of, kind, message_size, octet, message_bytes, entry_bytes, following, sheet_bytes}
 use Rattle.sheets.specs.Bytes.{number_at, count_place, message_place, entries_place, bit_at, entry_at, sheet_read}
@@ -175,3 +178,7 @@ module _ (l : ℕ) (bytes : List ℕ) (b : Bytes bytes) (some : 1 ≤ l) (short 
   pub framed_test : Decides (framed l bytes) (Framed l bytes)
   unfolding framed
   framed_test = said (alike_test (sheet_bytes l (sheet_read l bytes)) bytes) frame_out frame_in
+
+-- for a program that goes on after the test
+pub framed_out : (l : ℕ) (bytes : List ℕ) → Bytes bytes → shortest_message ≤ l → l ≤ longest_message → framed l bytes ≡ true → Framed l bytes
+framed_out l bytes b some span h = (framed_test l bytes b some (omega arith)).out (true_in (framed l bytes) h)

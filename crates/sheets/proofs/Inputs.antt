@@ -1,8 +1,9 @@
--- A loop over the inputs of a node, the largest first, by the work that is left; and what an entry inside the trellis says of its
--- branches. Assumes nothing.
-use mathlib.Core.Path.{◌≡◌, refl}
-use mathlib.Core.Bool.{Bool, true, ◌&&◌}
-use Prim.Native.Nat.{ℕ, zero, suc, ◌+◌, ◌-◌, ◌^◌, ◌≤◌, ◌<◌}
+-- A loop over the inputs of a node; and what an entry inside the trellis says of its branches. Assumes nothing.
+use mathlib.Core.Path.{◌≡◌, refl, sym, ap, ◌∙◌}
+use mathlib.Core.Bool.{Bool, true, false, ◌&&◌, and-false}
+use Prim.Native.Nat.{ℕ, zero, suc, ◌+◌, ◌^◌, ◌≤◌, ◌<◌}
+use native.Mathlib.Numerals.{add-one}
+use native.Mathlib.Decide.{ℕ_discrete}
 use native.Mathlib.Omega.{arith}
 use borrow.Author.Tests.{leb-true, ltb-true}
 use lib.Dec.{leb, ltb}
@@ -12,17 +13,20 @@ use Rattle.codes.specs.declared.table.Code.{Code}
 use Rattle.trellis.specs.Verdict.{Entry}
 use Rattle.sheets.specs.Checking.{in_trellis}
 
--- the largest input, then the others
-pub below_first : (p : ℕ → Bool) (n : ℕ) → 0 < n → all p (below n) ≡ p (n - 1) && all p (below (n - 1))
+-- one input more passes
+pub below_next : (p : ℕ → Bool) (n : ℕ) → p n ≡ true → all p (below n) ≡ true → all p (below (n + 1)) ≡ true
 unfolding all below
-below_first p zero h = absurd (omega arith)
-below_first p (suc n) h = let e : suc n - 1 ≡ n = omega arith in rw e
+below_next p n h k = rw (add-one, h) k
 
--- no input is left
-pub below_none : (p : ℕ → Bool) (n : ℕ) → n ≤ 0 → all p (below n) ≡ true
+-- an input fails
+pub below_fails : (p : ℕ → Bool) (n i : ℕ) → i < n → p i ≡ false → all p (below n) ≡ false
 unfolding all below
-below_none p zero h = refl
-below_none p (suc n) h = absurd (omega arith)
+below_fails p zero i h e = absurd (omega arith)
+below_fails p (suc n) i h e = go (ℕ_discrete i n) (λ l. below_fails p n i l e)
+  where
+    go : Dec (i ≡ n) → (i < n → all p (below n) ≡ false) → p n && all p (below n) ≡ false
+    go (yes q) ih = rw (sym (ap p q) ∙ e) refl
+    go (no q) ih = rw (ih (omega arith)) (and-false (p n))
 
 -- level and state of an entry
 pub in_trellis_out : (c : Code) (l : ℕ) (e : Entry) → in_trellis c l e ≡ true → (e.node.level ≤ l + c.memory) × (e.node.state < 2 ^ c.memory)

@@ -1,12 +1,13 @@
--- Numbers read off bytes: from a place on, written again, below a power of 256, and by halves. Assumes nothing.
+-- Numbers read off bytes: from a place on, written again, below a power of 256, and as the library reads and gives them. Assumes nothing.
 use mathlib.Core.Path.{◌≡◌, refl, sym, ap, ap₂, ◌∙◌}
 use mathlib.Core.List.{List, [], ◌∷◌, ◌++◌}
 use Prim.Native.Nat.{ℕ, zero, suc, ◌+◌, ◌*◌, ◌/◌, ◌%◌, ◌^◌, ◌≤◌, ◌<◌}
-use native.Mathlib.Nat.{pow-suc, div-div-eq-div-mul}
+use native.Mathlib.Nat.{add-zero, pow-suc, div-div-eq-div-mul}
+use native.Mathlib.Numerals.{add-one}
 use native.Mathlib.Omega.{arith}
-use lib.ListN.{length, get_or, drop}
-use lib.Pow.{field}
-use lib.Seq.{drop-cons, get_or-drop}
+use lib.ListN.{length, get_or, take, drop}
+use lib.Seq.{drop-cons, get_or-take, get_or-drop, sets}
+use Rattle.std.specs.Int.{w16, w32, from_le_bytes, to_le_bytes}
 use Rattle.sheets.specs.Bytes.{bytes_of, number_at}
 
 -- every member of a list of bytes is one: what a slice of bytes gives
@@ -39,20 +40,50 @@ unfolding number_at
 number_at_below l b zero at = omega arith
 number_at_below l b (suc width) at = omega (arith, b at, number_at_below l b width (suc at), pow-suc 256 width)
 
--- ---- four bytes are twice two
+-- ---- as the library reads and gives a number's bytes
 
--- to read
-pub number_halves : (at : ℕ) (l : List ℕ) → number_at 4 at l ≡ number_at 2 at l + 65536 * number_at 2 (at + 2) l
+-- a byte of those from a place on
+byte_from : (n at i : ℕ) (l : List ℕ) → i < n → get_or (take n (drop at l)) i 0 ≡ get_or l (at + i) 0
+byte_from n at i l h = get_or-take n (drop at l) i 0 h ∙ get_or-drop at l i 0
+
+-- two of them are a number of 16 bits
+pub two_read : (l : List ℕ) (at : ℕ) {n : ℕ} {b : List ℕ} → n ≡ from_le_bytes w16 b → b ≡ take 2 (drop at l) → n ≡ number_at 2 at l
 unfolding number_at
-number_halves at l = let e : at + 2 ≡ suc (suc at) = omega arith in rw e (omega arith)
+two_read l at {b = b} e h =
+    let first : get_or b 0 0 ≡ get_or l at 0 = rw (h, byte_from 2 at 0 l (omega arith), add-zero) refl in
+    let second : get_or b 1 0 ≡ get_or l (suc at) 0 = rw (h, byte_from 2 at 1 l (omega arith), add-one) refl in
+    omega (arith, e, first, second)
 
--- to put
-pub bytes_halves : (n : ℕ) → bytes_of 4 n ≡ bytes_of 2 (n % 65536) ++ bytes_of 2 (n / 65536)
+-- four of them are one of 32 bits
+pub four_read : (l : List ℕ) (at : ℕ) {n : ℕ} {b : List ℕ} → n ≡ from_le_bytes w32 b → b ≡ take 4 (drop at l) → n ≡ number_at 4 at l
+unfolding number_at
+four_read l at {b = b} e h =
+    let place : (i j : ℕ) → i < 4 → at + i ≡ j → get_or b i 0 ≡ get_or l j 0 =
+    λ i j k q. ap (λ (t : List ℕ). get_or t i 0) h ∙ byte_from 4 at i l k ∙ ap (λ (m : ℕ). get_or l m 0) q in
+    omega (
+      arith,
+      e,
+      place 0 at (omega arith) (omega arith),
+      place 1 (suc at) (omega arith) (omega arith),
+      place 2 (suc (suc at)) (omega arith) (omega arith),
+      place 3 (suc (suc (suc at))) (omega arith) (omega arith),
+    )
+
+-- and back
+pub two_given : (n : ℕ) → to_le_bytes w16 n ≡ bytes_of 2 n
 unfolding bytes_of
-bytes_halves n =
-    let a : n % 256 ≡ n % 65536 % 256 = omega arith in
-    let b : n / 256 % 256 ≡ n % 65536 / 256 % 256 = omega (arith, field n 8 8) in
-    let q : n / 256 / 256 ≡ n / 65536 = div-div-eq-div-mul n 256 256 in
-    let c : n / 256 / 256 % 256 ≡ n / 65536 % 256 = ap (λ (x : ℕ). x % 256) q in
-    let d : n / 256 / 256 / 256 % 256 ≡ n / 65536 / 256 % 256 = ap (λ (x : ℕ). x / 256 % 256) q in
-    λ z. a z ∷ b z ∷ c z ∷ d z ∷ []
+two_given n = refl
+
+pub four_given : (n : ℕ) → to_le_bytes w32 n ≡ bytes_of 4 n
+unfolding bytes_of
+four_given n =
+    let third : n / 65536 % 256 ≡ n / 256 / 256 % 256 = rw (div-div-eq-div-mul n 256 256) refl in
+    let fourth : n / 16777216 % 256 ≡ n / 256 / 256 / 256 % 256 = rw (div-div-eq-div-mul n 256 256, div-div-eq-div-mul n 65536 256) refl in
+    λ z. n % 256 ∷ n / 256 % 256 ∷ third z ∷ fourth z ∷ []
+
+-- what a program puts of them
+pub two_put : (n at : ℕ) (l : List ℕ) {b k : List ℕ} → b ≡ to_le_bytes w16 n → k ≡ sets l at b → k ≡ sets l at (bytes_of 2 n)
+two_put n at l e h = h ∙ ap (sets l at) (e ∙ two_given n)
+
+pub four_put : (n at : ℕ) (l : List ℕ) {b k : List ℕ} → b ≡ to_le_bytes w32 n → k ≡ sets l at b → k ≡ sets l at (bytes_of 4 n)
+four_put n at l e h = h ∙ ap (sets l at) (e ∙ four_given n)

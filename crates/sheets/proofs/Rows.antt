@@ -16,7 +16,8 @@ use Rattle.blocks.specs.Symbols.{view}
 use Rattle.blocks.specs.Blocks.{trellis_of}
 use Rattle.sheets.specs.Bytes.{sheet_read, number_at, count_place}
 use Rattle.sheets.specs.Checking.{framed, most_entries, rising, in_trellis, formed, carried, handed, sizes_fit, checking}
-use Rattle.sheets.proofs.Frame.{counted}
+use Rattle.sheets.proofs.Numbers.{Bytes}
+use Rattle.sheets.proofs.Frame.{Framed, framed_out, counted}
 
 -- ---- the form
 
@@ -56,6 +57,9 @@ formed_out c l bytes h =
     let third = both (framed l bytes && from 1 most_entries (length (sheet_read l bytes).entries)) _ last.0 in
     let second = both (framed l bytes) _ third.0 in
     record { frame = second.0; count = second.1; ordered = third.1; inside = last.1 }
+
+pub formed_framed : (c : Code) (l : ℕ) (bytes : List ℕ) → Bytes bytes → shortest_message ≤ l → l ≤ longest_message → formed c l bytes ≡ true → Framed l bytes
+formed_framed c l bytes b some span h = framed_out l bytes b some span (formed_out c l bytes h).frame
 
 -- and for whoever has them all
 pub formed_in : (c : Code) (l : ℕ) (bytes : List ℕ) → Formed c l bytes → formed c l bytes ≡ true

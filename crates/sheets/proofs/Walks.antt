@@ -1,14 +1,21 @@
 -- The message's path level by level: the walk, by what it holds so far, and the path that it comes to. Assumes nothing.
 use mathlib.Core.Path.{◌≡◌, refl, sym, ap, ap₂, ◌∙◌, subst}
-use mathlib.Core.List.{List, ◌∷◌}
+use mathlib.Core.List.{List, [], ◌∷◌}
+use mathlib.Core.Bool.{Bool, ◌&&◌}
 use Prim.Native.Nat.{ℕ, zero, suc, ◌+◌, ◌*◌, ◌≤◌, ◌<◌}
+use native.Mathlib.Nat.{add-zero, zero-add}
 use native.Mathlib.Numerals.{add-one}
 use native.Mathlib.Decide.{ℕ_discrete}
 use native.Mathlib.Omega.{arith}
-use lib.ListN.{length, get_or, set}
-use lib.Seq.{get_or-set_same, get_or-set_other}
+use lib.ListN.{length, get_or, set, take}
+use lib.Seq.{get_or-set_same, get_or-set_other, get_or-take}
+use Rattle.std.specs.List.{list_all, enumerate_from}
+use Rattle.lists.specs.Lists.{all}
 use Rattle.trellis.specs.Trellis.{Trellis, ends, along, metric}
-use Rattle.sheets.specs.Steps.{absent, early, Walked}
+use Rattle.sheets.specs.Bytes.{series}
+use Rattle.sheets.specs.declared.path.Visit.{Visit}
+use Rattle.sheets.specs.Steps.{early, visit_at, Walked}
+use Rattle.sheets.proofs.Series.{series_same}
 
 -- a path's level is the number of its inputs
 pub length_early : (message : List ℕ) (k : ℕ) → length (early message k) ≡ k
@@ -22,69 +29,89 @@ unfolding early
 early_next message k = rw add-one
 
 -- The path is being walked: where it is, what it has cost, and what is written of it.
-pub record Walking (t : Trellis) (message : List ℕ) (most bound : ℕ) (states metrics : List ℕ) (state spent level : ℕ) : Type 0 where
-  pub here : state ≡ ends t (early message level)
-  pub paid : spent ≡ metric t (early message level)
-  pub small : spent ≤ most * level
-  pub below : state < bound
-  pub walked : Walked t message level states metrics
+pub record Walking (t : Trellis) (message : List ℕ) (most bound : ℕ) (path : List Visit) (here : Visit) (level : ℕ) : Type 0 where
+  pub state_is : here.state ≡ ends t (early message level)
+  pub metric_is : here.metric ≡ metric t (early message level)
+  pub small : here.metric ≤ most * level
+  pub below : here.state < bound
+  pub walked : Walked t message level path
 
--- what holds of the numbers that were written, and of one more behind them
-written : (P : ℕ → ℕ → Type 0) (l : List ℕ) (k x : ℕ) → k + 1 < length l → ((j : ℕ) → j ≤ k → P j (get_or l j 0)) → P (k + 1) x
-    → (j : ℕ) → j ≤ k + 1 → P j (get_or (set l (k + 1) x) j 0)
-written P l k x room h e j fits = go (ℕ_discrete j (k + 1))
+-- what holds of the visits that were written, and of one more behind them
+written : (P : ℕ → Visit → Type 0) (l : List Visit) (k : ℕ) (v : Visit) → k + 1 < length l → ((j : ℕ) → j ≤ k → P j (visit_at l j)) → P (k + 1) v
+    → (j : ℕ) → j ≤ k + 1 → P j (visit_at (set l (k + 1) v) j)
+written P l k v room h e j fits = go (ℕ_discrete j (k + 1))
   where
-    go : Dec (j ≡ k + 1) → P j (get_or (set l (k + 1) x) j 0)
-    go (yes q) = subst (λ (i : ℕ). P i (get_or (set l (k + 1) x) i 0)) (sym q) (subst (P (k + 1)) (sym (get_or-set_same l (k + 1) x 0 room)) e)
-    go (no n) = subst (P j) (sym (get_or-set_other l (k + 1) j x 0 n)) (h j (omega arith))
+    go : Dec (j ≡ k + 1) → P j (visit_at (set l (k + 1) v) j)
+    go (yes q) = subst (λ (i : ℕ). P i (visit_at (set l (k + 1) v) i)) (sym q) (subst (P (k + 1)) (sym (get_or-set_same l (k + 1) v _ room)) e)
+    go (no n) = subst (P j) (sym (get_or-set_other l (k + 1) j v _ n)) (h j (omega arith))
 
-module _ (t : Trellis) (message : List ℕ) (most bound : ℕ) (states metrics : List ℕ) (state spent level : ℕ)
-    (w : Walking t message most bound states metrics state spent level) where
+module _ (t : Trellis) (message : List ℕ) (most bound : ℕ) (path : List Visit) (here : Visit) (level : ℕ)
+    (w : Walking t message most bound path here level) where
   -- for the loop's next turn: one branch is walked
-  pub walking_next : (b paid to : ℕ) → b ≡ get_or message level 0 → paid ≡ t.price level state b → to ≡ t.next state b → paid ≤ most → to < bound
-      → to < 65536 → spent + paid < absent
-      → level + 1 < length states → level + 1 < length metrics
-      → Walking t message most bound (set states (level + 1) to) (set metrics (level + 1) (spent + paid)) to (spent + paid) (level + 1)
+  pub walking_next : (b paid to : ℕ) → b ≡ get_or message level 0 → paid ≡ t.price level here.state b → to ≡ t.next here.state b → paid ≤ most
+      → to < bound → level + 1 < length path
+      → let there : Visit = record { state = to; metric = here.metric + paid } in Walking t message most bound (set path (level + 1) there) there (level + 1)
   unfolding ends along
-  walking_next b paid to eb ep et cheap low small fits room more = record {
-    here = here;
-    paid = sum;
+  walking_next b paid to eb ep et cheap low room = record {
+    state_is = state;
+    metric_is = sum;
     small = omega (arith, w.small);
     below = low;
     walked = record {
-      states_at = written (λ j x. x ≡ ends t (early message j)) states level to room w.walked.states_at here;
-      states_small = written (λ j x. x < 65536) states level to room w.walked.states_small small;
-      metrics_at = written (λ j x. x ≡ metric t (early message j)) metrics level (spent + paid) more w.walked.metrics_at sum;
-      metrics_small = written (λ j x. x < absent) metrics level (spent + paid) more w.walked.metrics_small fits;
+      state_at = written (λ j v. v.state ≡ ends t (early message j)) path level there room w.walked.state_at state;
+      metric_at = written (λ j v. v.metric ≡ metric t (early message j)) path level there room w.walked.metric_at sum;
     };
   }
     where
-      here : to ≡ ends t (early message (level + 1))
-      here = et ∙ ap₂ t.next w.here eb ∙ ap (ends t) (sym (early_next message level))
+      there : Visit
+      there = record { state = to; metric = here.metric + paid }
+
+      state : to ≡ ends t (early message (level + 1))
+      state = et ∙ ap₂ t.next w.state_is eb ∙ ap (ends t) (sym (early_next message level))
 
       price : paid ≡ t.price (length (early message level)) (ends t (early message level)) (get_or message level 0)
-      price = ep ∙ (λ z. t.price (sym (length_early message level) z) (w.here z) (eb z))
+      price = ep ∙ (λ z. t.price (sym (length_early message level) z) (w.state_is z) (eb z))
 
-      sum : spent + paid ≡ metric t (early message (level + 1))
-      sum = ap₂ (λ (x y : ℕ). x + y) w.paid price ∙ ap (metric t) (sym (early_next message level))
+      sum : here.metric + paid ≡ metric t (early message (level + 1))
+      sum = ap₂ (λ (x y : ℕ). x + y) w.metric_is price ∙ ap (metric t) (sym (early_next message level))
 
 -- for the loop's start: the origin
-pub walking_start : (t : Trellis) (message : List ℕ) (most bound : ℕ) (states metrics : List ℕ) → 0 < bound → get_or states 0 0 ≡ 0 → get_or metrics 0 0 ≡ 0
-    → Walking t message most bound states metrics 0 0 0
+pub walking_start : (t : Trellis) (message : List ℕ) (most bound : ℕ) (path : List Visit) → 0 < bound → visit_at path 0 ≡ record { state = 0; metric = 0 }
+    → Walking t message most bound path (record { state = 0; metric = 0 }) 0
 unfolding early ends along
-walking_start t message most bound states metrics b s m = record {
-  here = refl;
-  paid = refl;
+walking_start t message most bound path b e = record {
+  state_is = refl;
+  metric_is = refl;
   small = omega arith;
   below = b;
   walked = record {
-    states_at = (λ j h. first (λ k x. x ≡ ends t (early message k)) states s refl j h);
-    states_small = (λ j h. first (λ k x. x < 65536) states s (omega arith) j h);
-    metrics_at = (λ j h. first (λ k x. x ≡ metric t (early message k)) metrics m refl j h);
-    metrics_small = (λ j h. first (λ k x. x < absent) metrics m (omega arith) j h);
+    state_at = (λ j h. let q : 0 ≡ j = omega arith in subst (λ (k : ℕ). (visit_at path k).state ≡ ends t (early message k)) q (ap (λ (v : Visit). v.state) e));
+    metric_at = (λ j h. let q : 0 ≡ j = omega arith in subst (λ (k : ℕ). (visit_at path k).metric ≡ metric t (early message k)) q (ap (λ (v : Visit). v.metric) e));
   };
 }
-  where
-    first : (P : ℕ → ℕ → Type 0) (l : List ℕ) → get_or l 0 0 ≡ 0 → P 0 0 → (j : ℕ) → j ≤ 0 → P j (get_or l j 0)
-    first P l e h zero k = subst (P 0) (sym e) h
-    first P l e h (suc j) k = absurd (omega arith)
+
+-- for the part of the visits that a path has
+pub walked_part : (t : Trellis) (message : List ℕ) (level n : ℕ) (path : List Visit) → level < n → Walked t message level path → Walked t message level (take n path)
+walked_part t message level n path h w = record {
+  state_at = (λ j k. ap (λ (v : Visit). v.state) (get_or-take n path j _ (omega arith)) ∙ w.state_at j k);
+  metric_at = (λ j k. ap (λ (v : Visit). v.metric) (get_or-take n path j _ (omega arith)) ∙ w.metric_at j k);
+}
+
+-- for the check: a test of the visits in turn, each with its level
+numbered : (p : ℕ → Visit → Bool) (whole path : List Visit) (from : ℕ) → ((k : ℕ) → visit_at whole (from + k) ≡ visit_at path k)
+    → list_all (λ q. p q.0 q.1) (enumerate_from from path) ≡ all (λ j. p j (visit_at whole j)) (series (length path) (λ k. from + k))
+unfolding all series
+numbered p whole [] from h = refl
+numbered p whole (v ∷ path) from h =
+    let here : p from v ≡ p (from + 0) (visit_at whole (from + 0)) =
+    ap (p from) (sym (h 0)) ∙ ap (λ (j : ℕ). p j (visit_at whole (from + 0))) (sym (add-zero from)) in
+    let e : (k : ℕ) → from + 1 + k ≡ from + suc k = λ k. omega arith in
+    ap₂ (λ (a b : Bool). a && b) here
+    (numbered p whole path (from + 1) (λ k. ap (visit_at whole) (e k) ∙ h (suc k))
+    ∙ ap (all (λ j. p j (visit_at whole j))) (series_same (length path) _ _ (λ k l. e k)))
+
+pub all_visits : (p : ℕ → Visit → Bool) (path : List Visit)
+    → list_all (λ q. p q.0 q.1) (enumerate_from 0 path) ≡ all (λ j. p j (visit_at path j)) (series (length path) (λ j. j))
+all_visits p path =
+    numbered p path path 0 (λ k. ap (visit_at path) (zero-add k))
+    ∙ ap (all (λ j. p j (visit_at path j))) (series_same (length path) _ _ (λ k l. zero-add k))

@@ -1,6 +1,6 @@
 -- What `check` answers and writes, for every input: the form of a sheet, then the refusals in their order. Document 01, 'The decision
 -- sheet' and 'When the desk says no'. Believed, and read after Bytes and the conditions A to D (trellis, Sheet). Assumes nothing.
-use Rattle.std.specs.Prelude.{List, [], ◌∷◌, ◌++◌, Bool, true, false, cond, not, ◌&&◌, ℕ, ◌+◌, ◌^◌, eqb, ltb, leb, ℤ, length, drop}
+use Rattle.std.specs.Prelude.{List, [], ◌∷◌, ◌++◌, Bool, true, false, cond, not, ◌&&◌, ℕ, ◌+◌, ◌^◌, eqb, ltb, leb, ℤ, length, drop, Result, Ok, Err}
 use Rattle.lists.specs.Lists.{all}
 use Rattle.codes.specs.declared.table.Code.{Code}
 use Rattle.codes.specs.Limits.{shortest_message, longest_message}
@@ -11,8 +11,8 @@ use Rattle.trellis.specs.Sheet.{carries, honest}
 use Rattle.blocks.specs.Symbols.{view}
 use Rattle.blocks.specs.Blocks.{trellis_of}
 use Rattle.sheets.specs.Bytes.{Sheet, sheet_bytes, sheet_read}
-use Rattle.sheets.specs.declared.check.Checked.{Checked}
-use Rattle.sheets.specs.declared.check.Checked.TheVariants.{Accepted, BadCode, BadSize, Malformed, NotCarried}
+use Rattle.sheets.specs.declared.check.CheckError.{CheckError}
+use Rattle.sheets.specs.declared.check.CheckError.TheVariants.{BadCode, BadSize, Malformed, NotCarried}
 
 -- ---- the form
 
@@ -74,12 +74,12 @@ abbrev pub handed : (number metric : ℕ) (message : List ℕ) → Checking
 handed number metric message = record { number = number; metric = metric; message = message }
 
 -- 'For each case of an enum answer, a definition gives this paper's number and values'; 'Values not named in a row are 0.'
-unfoldable pub told : Checked → List ℕ → Checking
-told (Accepted metric) message = handed 0 metric message
-told BadCode message = handed 1 0 message
-told BadSize message = handed 2 0 message
-told Malformed message = handed 6 0 message
-told NotCarried message = handed 7 0 message
+unfoldable pub told : Result ℕ CheckError → List ℕ → Checking
+told (Ok metric) message = handed 0 metric message
+told (Err BadCode) message = handed 1 0 message
+told (Err BadSize) message = handed 2 0 message
+told (Err Malformed) message = handed 6 0 message
+told (Err NotCarried) message = handed 7 0 message
 
 -- All sizes are as stated; else 2: 'L .. or a block length not as stated; an output buffer .. too short'. 'Symbols must number exactly N'.
 abbrev pub sizes_fit : (c : Code) (l symbols room : ℕ) → Bool

@@ -1,16 +1,18 @@
 -- What the parts of the check promise each other: the entries as their own bytes say them, the cost that is listed for a node, the
 -- message's path level by level, and the tests of one branch. Not believed: what the check answers is said in Checking alone.
 -- Assumes nothing.
-use Rattle.std.specs.Prelude.{◌≡◌, List, [], ◌∷◌, ◌++◌, Bool, true, cond, not, ◌&&◌, ◌||◌, ℕ, zero, suc, ◌+◌, ◌-◌, ◌*◌, ◌/◌, ◌≤◌, ◌<◌, eqb, ltb, leb, length, get_or, drop}
+use Rattle.std.specs.Prelude.{◌≡◌, List, [], ◌∷◌, ◌++◌, map, Option, Some, None, Bool, true, false, cond, not, ◌&&◌, ◌||◌, ℕ, zero, suc, ◌+◌, ◌-◌, ◌*◌, ◌≤◌, eqb, ltb, leb, length, get_or}
 use Rattle.lists.specs.Lists.{all, below}
 use Rattle.codes.specs.declared.table.Code.{Code}
 use Rattle.codes.specs.Limits.{shortest_message, longest_message}
-use Rattle.codes.specs.Codes.{lawful, block_length}
+use Rattle.codes.specs.Codes.{block_length}
 use Rattle.trellis.specs.Trellis.{Trellis, Path, Node, node, same, allowed, ends, metric}
 use Rattle.trellis.specs.Verdict.{Entry}
 use Rattle.trellis.specs.Sheet.{onto}
 use Rattle.sheets.specs.Bytes.{series, bytes_of, kind, number_at, count_place, entries_place, entry_at}
 use Rattle.sheets.specs.Checking.{most_entries, rising, in_trellis, formed}
+use Rattle.sheets.specs.declared.entries.Entry as entries
+use Rattle.sheets.specs.declared.path.Visit.{Visit}
 
 -- ---- the size
 
@@ -20,27 +22,26 @@ sheet_size l count = entries_place l + 8 * count
 
 -- ---- the entries
 
--- the entries of bytes that hold nothing else
-unfoldable pub entries_in : List ℕ → List Entry
-entries_in bytes = series (length bytes / 8) (λ i. entry_at bytes (8 * i))
+-- what eight bytes say
+abbrev pub entry_said : List ℕ → entries.Entry
+entry_said bytes = record {
+  node = record { level = number_at 2 0 bytes; state = number_at 2 2 bytes };
+  cost = number_at 4 4 bytes;
+}
 
--- level and state as one number: the order of the numbers is the order of the nodes, as a state is below 65,536
-abbrev pub key_of : Node → ℕ
-key_of x = x.level * 65536 + x.state
+-- the entries that so many times eight bytes say
+unfoldable pub entries_in : List (List ℕ) → List Entry
+entries_in chunks = map (λ bytes. entry_at bytes 0) chunks
 
--- where a key was sought: its place, or behind the last entry if none has it
-pub record Sought (bytes : List ℕ) (key place : ℕ) : Type 0 where
-  pub found : place < length bytes / 8 → key_of (entry_at bytes (8 * place)).node ≡ key
-  pub missing : length bytes / 8 ≤ place → (i : ℕ) → i < length bytes / 8 → key_of (entry_at bytes (8 * i)).node ≡ key → ⊥
+-- the cost that a list gives a node, if it is listed
+unfoldable pub listed_cost : List Entry → Node → Option ℕ
+listed_cost [] x = None
+listed_cost (e ∷ es) x = let rest : Option ℕ = listed_cost es x in cond (same e.node x) (Some e.cost) rest
 
--- more than any cost of four bytes
-abbrev pub absent : ℕ
-absent = 4294967296
-
--- the cost that a list gives a node; more than any cost if it is not listed
-unfoldable pub listed_cost : List Entry → Node → ℕ
-listed_cost [] x = absent
-listed_cost (e ∷ es) x = let rest : ℕ = listed_cost es x in cond (same e.node x) e.cost rest
+-- a cost that is there and passes a test
+abbrev pub some_and : Option ℕ → (ℕ → Bool) → Bool
+some_and None p = false
+some_and (Some c) p = p c
 
 -- ---- the message's path
 
@@ -49,44 +50,46 @@ unfoldable pub early : List ℕ → ℕ → Path
 early message zero = []
 early message (suc k) = get_or message k 0 ∷ early message k
 
--- the states and the metrics of a message's path, from the origin to a level, all as small as a sheet's
-pub record Walked (t : Trellis) (message : List ℕ) (level : ℕ) (states metrics : List ℕ) : Type 0 where
-  pub states_at : (j : ℕ) → j ≤ level → get_or states j 0 ≡ ends t (early message j)
-  pub states_small : (j : ℕ) → j ≤ level → get_or states j 0 < 65536
-  pub metrics_at : (j : ℕ) → j ≤ level → get_or metrics j 0 ≡ metric t (early message j)
-  pub metrics_small : (j : ℕ) → j ≤ level → get_or metrics j 0 < absent
+-- where a path is at a level
+abbrev pub visit_at : List Visit → ℕ → Visit
+visit_at path j = get_or path j (record { state = 0; metric = 0 })
+
+-- the states and the metrics of a message's path, from the origin to a level
+pub record Walked (t : Trellis) (message : List ℕ) (level : ℕ) (path : List Visit) : Type 0 where
+  pub state_at : (j : ℕ) → j ≤ level → (visit_at path j).state ≡ ends t (early message j)
+  pub metric_at : (j : ℕ) → j ≤ level → (visit_at path j).metric ≡ metric t (early message j)
 
 -- C at a level: the path's node is listed, its cost the metric so far
-abbrev pub on_path : List Entry → List ℕ → List ℕ → ℕ → Bool
-on_path es states metrics j = eqb (listed_cost es (node j (get_or states j 0))) (get_or metrics j 0)
+abbrev pub on_path : List Entry → List Visit → ℕ → Bool
+on_path es path j = some_and (listed_cost es (node j (visit_at path j).state)) (λ c. eqb c (visit_at path j).metric)
 
 -- ---- one branch
 
 -- B for what a branch brings
 abbrev pub onward : List Entry → ℕ → Entry → Bool
-onward es m a = ltb m a.cost || leb (listed_cost es a.node) a.cost
+onward es m a = ltb m a.cost || some_and (listed_cost es a.node) (λ c. leb c a.cost)
 
 -- D for a branch from a level and a state to the next state, at a cost in all. Two branches of one code into one state have the same
 -- input, so the states alone tell whether it is the path's own.
-abbrev pub clear : List ℕ → List ℕ → ℕ → ℕ → ℕ → ℕ → Bool
-clear states metrics level state next total =
-    not (eqb next (get_or states (level + 1) 0)) || eqb state (get_or states level 0) || ltb (get_or metrics (level + 1) 0) total
+abbrev pub clear : List Visit → ℕ → ℕ → ℕ → ℕ → Bool
+clear path level state next total =
+    not (eqb next (visit_at path (level + 1)).state) || eqb state (visit_at path level).state || ltb (visit_at path (level + 1)).metric total
 
 -- both, for the branch from an entry with an input
-abbrev pub passing : Trellis → List Entry → ℕ → List ℕ → List ℕ → Entry → ℕ → Bool
-passing t es m states metrics e b =
-    onward es m (onto t e b) && clear states metrics e.node.level e.node.state (onto t e b).node.state (onto t e b).cost
+abbrev pub passing : Trellis → List Entry → ℕ → List Visit → Entry → ℕ → Bool
+passing t es m path e b =
+    onward es m (onto t e b) && clear path e.node.level e.node.state (onto t e b).node.state (onto t e b).cost
 
 -- both, for every branch of an entry
-unfoldable pub all_passing : Trellis → List Entry → ℕ → List ℕ → List ℕ → Entry → Bool
-all_passing t es m states metrics e = all (passing t es m states metrics e) (below (allowed t e.node.level))
+unfoldable pub all_passing : Trellis → List Entry → ℕ → List Visit → Entry → Bool
+all_passing t es m path e = all (passing t es m path e) (below (allowed t e.node.level))
 
 -- all that the check tests of a claim: C at each level, 'the last is M', then B and D
-unfoldable pub tested : Trellis → List Entry → ℕ → List ℕ → List ℕ → ℕ → Bool
-tested t es m states metrics top =
-    all (on_path es states metrics) (series (top + 1) (λ j. j)) &&
-    eqb (get_or metrics top 0) m &&
-    all (all_passing t es m states metrics) es
+unfoldable pub tested : Trellis → List Entry → ℕ → List Visit → ℕ → Bool
+tested t es m path top =
+    all (on_path es path) (series (top + 1) (λ j. j)) &&
+    eqb (visit_at path top).metric m &&
+    all (all_passing t es m path) es
 
 -- ---- a sheet that is put into a buffer
 
@@ -108,60 +111,24 @@ pub record Whole (l : ℕ) (bytes : List ℕ) : Type 0 where
   pub span : l ≤ longest_message
   pub size : entries_place l ≤ length bytes
 
--- a code, the block of its messages of L bits, a sheet, and room for the path's states and metrics
-pub record Walkable (c : Code) (l : ℕ) (block bytes states metrics : List ℕ) : Type 0 where
-  pub code : lawful c ≡ true
-  pub whole : Whole l bytes
-  pub full : length block ≡ block_length c l
-  pub room : l + c.memory < length states
-  pub more : l + c.memory < length metrics
-
--- entries that rise, and a node whose level and state have two bytes each
-pub record Findable (bytes : List ℕ) (level state : ℕ) : Type 0 where
-  pub ordered : rising (entries_in bytes) ≡ true
-  pub level_small : level < 65536
-  pub state_small : state < 65536
-
--- entries that rise, and the states of a path to a level
-pub record Followed (bytes states metrics : List ℕ) (top : ℕ) : Type 0 where
-  pub ordered : rising (entries_in bytes) ≡ true
-  pub short : top < 65536
-  pub room : top < length states
-  pub more : top < length metrics
-  pub small : (j : ℕ) → j ≤ top → get_or states j 0 < 65536
-
--- entries that rise and stay in the trellis of a code and a block, and the path
-pub record Branching (c : Code) (l : ℕ) (block bytes states metrics : List ℕ) : Type 0 where
-  pub code : lawful c ≡ true
+-- a sheet with as many entries as it says
+pub record Counted (l : ℕ) (bytes : List ℕ) : Type 0 where
   pub span : l ≤ longest_message
-  pub full : length block ≡ block_length c l
-  pub ordered : rising (entries_in bytes) ≡ true
-  pub inside : all (in_trellis c l) (entries_in bytes) ≡ true
-  pub room : l + c.memory < length states
-  pub more : l + c.memory < length metrics
-
--- the same with the whole sheet, and states of two bytes
-pub record Ready (c : Code) (l : ℕ) (block bytes states metrics : List ℕ) : Type 0 where
   pub size : length bytes ≡ sheet_size l (number_at 2 count_place bytes)
-  pub branching : Branching c l block (drop (entries_place l) bytes) states metrics
-  pub small : (j : ℕ) → j ≤ l + c.memory → get_or states j 0 < 65536
 
--- a code and an L that were tested, before the sheet's form is
-pub record Askable (c : Code) (l : ℕ) : Type 0 where
-  pub code : lawful c ≡ true
-  pub some : shortest_message ≤ l
-  pub span : l ≤ longest_message
+-- entries that rise and stay in the trellis of a code, and a path to the top
+pub record Branching (c : Code) (l : ℕ) (chunks : List (List ℕ)) (path : List Visit) : Type 0 where
+  pub ordered : rising (entries_in chunks) ≡ true
+  pub inside : all (in_trellis c l) (entries_in chunks) ≡ true
+  pub visits : length path ≡ l + c.memory + 1
 
 -- a code, so many symbols and a sheet of good form
 pub record Checkable (c : Code) (l symbols : ℕ) (bytes : List ℕ) : Type 0 where
-  pub askable : Askable c l
+  pub some : shortest_message ≤ l
+  pub span : l ≤ longest_message
   pub full : symbols ≡ block_length c l
   pub form : formed c l bytes ≡ true
 
 -- a buffer of so many bytes at least
 abbrev pub Room : ℕ → List ℕ → Type 0
 Room n buffer = n ≤ length buffer
-
--- one of the entries
-abbrev pub Place : List ℕ → ℕ → Type 0
-Place bytes i = i < length bytes / 8

@@ -1,38 +1,19 @@
-// Numbers of two and four bytes, little-endian, read and put.
-ghost use Rattle.std.specs.Prelude.{◌≡◌, ◌+◌, ◌≤◌, length};
+// Bytes from a place on, read and put.
+ghost use Rattle.std.specs.Prelude.{◌≡◌, ◌+◌, ◌≤◌, length, take, drop};
 ghost use Rattle.std.proofs.lemmas.List.Edits.{sets};
-ghost use Rattle.sheets.specs.Bytes.{bytes_of, number_at};
 
-// The number in the two bytes from a place on.
-pub fn two_bytes(bytes: &[u8], at: usize) -> u16
-    requires { at + 2 ≤ length bytes.now }
-    ensures { result ≡ number_at 2 at bytes.now }
+// The N bytes from a place on.
+pub fn bytes_at<const N: usize>(bytes: &[u8], at: usize) -> [u8; N]
+    requires { at + N ≤ length bytes.now }
+    ensures { result ≡ take N (drop at bytes.now) }
 {
-    (bytes[at] as u16) + 256 * (bytes[at + 1] as u16)
+    bytes[at..at + N].try_into().unwrap()
 }
 
-// The number in the four bytes from a place on.
-pub fn four_bytes(bytes: &[u8], at: usize) -> u32
-    requires { at + 4 ≤ length bytes.now }
-    ensures { result ≡ number_at 4 at bytes.now }
+// Puts bytes from a place on.
+pub fn put_bytes(out: &mut [u8], at: usize, bytes: &[u8])
+    requires { at + length bytes.now ≤ length out.old }
+    ensures { out.new ≡ sets out.old at bytes.now }
 {
-    (two_bytes(bytes, at) as u32) + 65536 * (two_bytes(bytes, at + 2) as u32)
-}
-
-// Puts a number into the two bytes from a place on.
-pub fn put_two_bytes(out: &mut [u8], at: usize, n: u16)
-    requires { at + 2 ≤ length out.old }
-    ensures { out.new ≡ sets out.old at (bytes_of 2 n) }
-{
-    out[at] = (n % 256) as u8;
-    out[at + 1] = (n / 256) as u8;
-}
-
-// Puts a number into the four bytes from a place on.
-pub fn put_four_bytes(out: &mut [u8], at: usize, n: u32)
-    requires { at + 4 ≤ length out.old }
-    ensures { out.new ≡ sets out.old at (bytes_of 4 n) }
-{
-    put_two_bytes(&mut *out, at, (n % 65536) as u16);
-    put_two_bytes(&mut *out, at + 2, (n / 65536) as u16);
+    out[at..at + bytes.len()].copy_from_slice(bytes);
 }

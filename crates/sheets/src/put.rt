@@ -9,7 +9,7 @@ ghost use Rattle.sheets.specs.Bytes.{message_size, octet, message_bytes, entry_b
 ghost use Rattle.sheets.specs.Checking.{most_entries};
 ghost use Rattle.sheets.specs.Steps.{sheet_size, head_bytes, Puttable};
 
-use crate::bytes::{put_four_bytes, put_two_bytes};
+use crate::bytes::put_bytes;
 use crate::form::{
     COUNT_PLACE, KIND, KIND_PLACE, LENGTH_PLACE, MESSAGE_PLACE, METRIC_PLACE, entries_place,
 };
@@ -28,14 +28,14 @@ pub fn put_head(out: &mut [u8], length: usize, metric: u32, count: usize)
     ensures { out.new ≡ sets out.old 0 (head_bytes length metric count) }
 {
     let size = sheet_size(length, count);
-    put_four_bytes(&mut *out, 0, (size - 4) as u32);
-    put_two_bytes(&mut *out, KIND_PLACE, KIND);
-    put_two_bytes(&mut *out, LENGTH_PLACE, length as u16);
-    put_four_bytes(&mut *out, METRIC_PLACE, metric);
-    put_two_bytes(&mut *out, COUNT_PLACE, count as u16);
+    put_bytes(out, 0, &((size - 4) as u32).to_le_bytes());
+    put_bytes(out, KIND_PLACE, &KIND.to_le_bytes());
+    put_bytes(out, LENGTH_PLACE, &(length as u16).to_le_bytes());
+    put_bytes(out, METRIC_PLACE, &metric.to_le_bytes());
+    put_bytes(out, COUNT_PLACE, &(count as u16).to_le_bytes());
 }
 
-// Puts the message, eight bits a byte.
+// Puts the message, eight bits a byte. (No type of bits: the message is the caller's slice and stays one.)
 pub fn put_message(out: &mut [u8], message: &[u8])
     requires { (all is_bit message.now ≡ true) × (length message.now ≤ longest_message)
         × (entries_place (length message.now) ≤ length out.old) }
@@ -43,10 +43,8 @@ pub fn put_message(out: &mut [u8], message: &[u8])
         ≡ sets out.old message_place (message_bytes (length message.now) message.now) }
 {
     let size = (message.len() + 7) / 8;
-    let mut j = 0usize;
-    while j < size {
+    for j in 0..size {
         out[MESSAGE_PLACE + j] = octet(message, j);
-        j += 1;
     }
 }
 
@@ -55,14 +53,17 @@ pub fn put_entry(out: &mut [u8], at: usize, level: u16, state: u16, cost: u32)
     requires { at + 8 ≤ length out.old }
     ensures { out.new ≡ sets out.old at (entry_bytes (entry cost level state)) }
 {
-    put_two_bytes(&mut *out, at, level);
-    put_two_bytes(&mut *out, at + 2, state);
-    put_four_bytes(&mut *out, at + 4, cost);
+    put_bytes(out, at, &level.to_le_bytes());
+    put_bytes(out, at + 2, &state.to_le_bytes());
+    put_bytes(out, at + 4, &cost.to_le_bytes());
 }
 
-// Byte j of a message, the first bit highest.
+// Byte j of a message, the first bit highest. Eight terms, as in the definition: a loop would be no plainer, and needs a bound on the
+// sum so far.
+#[tactic(auto, unfolding(crate::specs::Bytes::octet))]
 fn octet(message: &[u8], j: usize) -> u8
-    requires { (all is_bit message.now ≡ true) × (j < message_size longest_message) }
+    requires bits { all is_bit message.now ≡ true }
+    requires place { j < message_size longest_message }
     ensures { result ≡ octet message.now j }
 {
     let at = 8 * j;
@@ -77,10 +78,11 @@ fn octet(message: &[u8], j: usize) -> u8
     16 * high + low
 }
 
-// Bit i of a message, and behind its end 0.
+// Bit i of a message, and behind its end 0. (As the encoder's `bit_at`, and a bit: one line, and a name for both would be no shorter.)
 fn bit(message: &[u8], i: usize) -> u8
     requires { all is_bit message.now ≡ true }
-    ensures { (result ≡ get_or message.now i 0) × (result ≤ 1) }
+    ensures read { result ≡ get_or message.now i 0 }
+    ensures bit { result ≤ 1 }
 {
-    if i < message.len() { message[i] } else { 0 }
+    message.get(i).copied().unwrap_or(0)
 }

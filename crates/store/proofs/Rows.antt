@@ -1,5 +1,5 @@
 -- The rows that the memory shows: how many, which, and what becomes of them when the words of a row are written: a row among them is
--- set, a row behind the last is added. Callers of this crate need length_rows_of alone. Assumes nothing.
+-- set, a row behind the last is added. Assumes nothing.
 use mathlib.Core.Path.{◌≡◌, refl, sym, ap, ap₂, ◌∙◌}
 use mathlib.Core.List.{List, [], ◌∷◌, ◌++◌}
 use Prim.Native.Nat.{ℕ, zero, suc, ◌+◌, ◌*◌, ◌≤◌, ◌<◌}
@@ -10,7 +10,7 @@ use lib.ListN.{length, set, length-append, length-set, get_or-append}
 use lib.Seq.{get_or_at, get_or-set_same, get_or-set_other, ext_get_or}
 use Rattle.trellis.specs.Search.{Row, no_row, row_at}
 use Rattle.store.specs.declared.Held.{Held}
-use Rattle.store.specs.Memory.{row_of, Small, order_word, rest_word, row_from, order_at, rest_at, rows_of, written, Stored, Shows}
+use Rattle.store.specs.Memory.{row_of, Small, order_word, rest_word, row_from, order_at, rest_at, rows_of, written, Shown, showing}
 use Rattle.store.proofs.Words.{row_from_words}
 
 -- ---- the memory as it is
@@ -50,7 +50,7 @@ module _ (work : List ℕ) (i : ℕ) (r : Held) where
   half = set work (3 * i) (order_word r)
 
   -- the length stays
-  length_written : length (written work i r) ≡ length work
+  pub length_written : length (written work i r) ≡ length work
   length_written = simp length-set
 
   -- the row is the one written
@@ -68,45 +68,43 @@ module _ (work : List ℕ) (i : ℕ) (r : Held) where
       (get_or-set_other half (3 * i + 1) (3 * k) (rest_word r) 0 (omega arith) ∙ get_or-set_other work (3 * i) (3 * k) (order_word r) 0 (omega arith))
       (get_or-set_other half (3 * i + 1) (3 * k + 1) (rest_word r) 0 (omega arith) ∙ get_or-set_other work (3 * i) (3 * k + 1) (order_word r) 0 (omega arith))
 
--- for a change of row i: what it becomes, given as any row equal to what was written
-pub set_shows : (work : List ℕ) (n i : ℕ) (r : Held) {x : Row} → Stored work n → i < n → Small r → row_of r ≡ x
-    → Shows work (written work i r) n (set (rows_of work n) i x)
-set_shows work n i r {x} s h small e = record {
-  stored = record { room = omega (arith, s.room, length_written work i r) };
-  rows =
-      ext_get_or no_row (rows_of (written work i r) n) (set (rows_of work n) i x)
-      (length_rows_of (written work i r) n ∙ sym (length-set (rows_of work n) i x ∙ length_rows_of work n))
-      (λ k l. at k (omega (arith, length_rows_of (written work i r) n)) (ℕ_discrete k i));
-  kept = length_written work i r;
-}
+-- what a caller sees, by its parts
+abbrev shown_as : ℕ → List Row → Shown
+shown_as words rows = record { words = words; rows = rows }
+
+-- what a caller sees of the memory with so many rows
+abbrev pub shown : List ℕ → ℕ → Shown
+shown work n = shown_as (length work) (rows_of work n)
+
+-- for a change of row i
+pub set_shows : (work : List ℕ) (n i : ℕ) (r : Held) → 3 * n ≤ length work → i < n → Small r
+    → shown (written work i r) n ≡ showing (shown work n) (set (rows_of work n) i (row_of r))
+set_shows work n i r room h small =
+    ap₂ shown_as
+    (length_written work i r)
+    (ext_get_or no_row (rows_of (written work i r) n) (set (rows_of work n) i (row_of r))
+    (length_rows_of (written work i r) n ∙ sym (length-set (rows_of work n) i (row_of r) ∙ length_rows_of work n))
+    (λ k l. at k (omega (arith, length_rows_of (written work i r) n)) (ℕ_discrete k i)))
   where
-    at : (k : ℕ) → k < n → Dec (k ≡ i) → row_at (rows_of (written work i r) n) k ≡ row_at (set (rows_of work n) i x) k
+    at : (k : ℕ) → k < n → Dec (k ≡ i) → row_at (rows_of (written work i r) n) k ≡ row_at (set (rows_of work n) i (row_of r)) k
     at k l (yes q) =
         rw q
         (row_at_rows_of (written work i r) n i h
-        ∙ written_here work i r (omega (arith, s.room)) small
-        ∙ e
-        ∙ sym (get_or-set_same (rows_of work n) i x no_row (omega (arith, length_rows_of work n))))
+        ∙ written_here work i r (omega arith) small
+        ∙ sym (get_or-set_same (rows_of work n) i (row_of r) no_row (omega (arith, length_rows_of work n))))
     at k l (no d) =
         row_at_rows_of (written work i r) n k l
         ∙ written_others work i r k d
-        ∙ sym (get_or-set_other (rows_of work n) i k x no_row d ∙ row_at_rows_of work n k l)
+        ∙ sym (get_or-set_other (rows_of work n) i k (row_of r) no_row d ∙ row_at_rows_of work n k l)
 
 -- for a row more
 pub added_shows : (work : List ℕ) (n : ℕ) (r : Held) → 3 * (n + 1) ≤ length work → Small r
-    → Shows work (written work n r) (n + 1) (rows_of work n ++ (row_of r ∷ []))
+    → shown (written work n r) (n + 1) ≡ showing (shown work n) (rows_of work n ++ (row_of r ∷ []))
 unfolding rows_of
-added_shows work n r room small = record {
-  stored = record { room = omega (arith, length_written work n r) };
-  rows =
-      rw (add-one n)
-      (ap₂ (λ (rows : List Row) (x : Row). rows ++ (x ∷ []))
-      (rows_of_same (written work n r) work n (λ i h. written_others work n r i (omega arith)))
-      (written_here work n r room small));
-  kept = length_written work n r;
-}
-
--- for a search without room: the memory as it is holds no row
-pub none_shows : (work : List ℕ) → Shows work work 0 []
-unfolding rows_of
-none_shows work = record { stored = record { room = omega arith }; rows = refl; kept = refl }
+added_shows work n r room small =
+    rw (add-one n)
+    (ap₂ shown_as
+    (length_written work n r)
+    (ap₂ (λ (rows : List Row) (x : Row). rows ++ (x ∷ []))
+    (rows_of_same (written work n r) work n (λ i h. written_others work n r i (omega arith)))
+    (written_here work n r room small)))

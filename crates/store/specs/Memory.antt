@@ -1,6 +1,6 @@
--- Nodes in lent memory: the words of a row, the rows that the memory shows, and what a change of it has to keep.
--- Only this crate opens rows_of and Stored: callers go by the contracts, which speak of the rows alone. Not believed. Assumes nothing.
-use Rattle.std.specs.Prelude.{◌≡◌, List, [], ◌∷◌, ◌++◌, cond, ℕ, zero, suc, ◌+◌, ◌*◌, ◌/◌, ◌%◌, ◌^◌, ◌≤◌, ◌<◌, eqb, length, get_or, set}
+-- Nodes in lent memory: the words of a row, the rows that the memory shows, and what callers see of it. Only this
+-- crate opens rows_of: callers go by the contracts, which speak of Shown alone. Not believed. Assumes nothing.
+use Rattle.std.specs.Prelude.{List, [], ◌∷◌, ◌++◌, cond, ℕ, zero, suc, ◌+◌, ◌*◌, ◌/◌, ◌%◌, ◌^◌, ◌<◌, eqb, ltb, Option, Some, None, length, get_or, set}
 use Rattle.trellis.specs.Verdict.{Entry, entry}
 use Rattle.trellis.specs.Search.{Row}
 use Rattle.store.specs.declared.Held.{Held}
@@ -79,12 +79,17 @@ rows_of work (suc n) = rows_of work n ++ (row_from (order_at work n) (rest_at wo
 abbrev pub written : List ℕ → ℕ → Held → List ℕ
 written work i r = set (set work (3 * i) (order_word r)) (3 * i + 1) (rest_word r)
 
--- the memory is fit to hold n rows
-pub record Stored (work : List ℕ) (n : ℕ) : Type 0 where
-  pub room : 3 * n ≤ length work
+-- ---- what callers see
 
--- the memory shows these n rows now, and has kept its length
-pub record Shows (first work : List ℕ) (n : ℕ) (shown : List Row) : Type 0 where
-  pub stored : Stored work n
-  pub rows : rows_of work n ≡ shown
-  pub kept : length work ≡ length first
+-- how many words the memory has, and the rows that it shows
+pub record Shown : Type 0 where
+  pub words : ℕ
+  pub rows : List Row
+
+-- the same memory with other rows
+abbrev pub showing : Shown → List Row → Shown
+showing s rows = record { words = s.words; rows = rows }
+
+-- an index found among the rows: none if it is their number
+abbrev pub found_at : List Row → ℕ → Option ℕ
+found_at rows i = cond (ltb i (length rows)) (Some i) None

@@ -2,10 +2,13 @@
 // (specs/Memory).
 #![tactic(auto)]
 
-ghost use Rattle.std.specs.Prelude.{◌≡◌, ◌+◌, ◌*◌, ◌^◌, ◌≤◌, ◌<◌, min, length};
+ghost use Rattle.std.specs.Prelude.{◌≡◌, ◌+◌, ◌*◌, ◌^◌, ◌≤◌, ◌<◌, ℕ, List, [], length, set};
 ghost use Rattle.trellis.specs.Trellis.{node};
-ghost use Rattle.trellis.specs.Search.{row_at, node_at, started, find_row, first_open, next_closed, added, lowered, joined, closed};
-ghost use Rattle.store.specs.Memory.{row_of, Small, order_word, rest_word, written, rows_of, Stored, Shows};
+ghost use Rattle.trellis.specs.Search.{Row, row_at, node_at, started, find_row, first_open, next_closed, added, lowered, joined, closed};
+ghost use Rattle.store.specs.Memory.{row_of, Small, order_word, rest_word, order_at, rest_at, written, rows_of, showing, found_at};
+ghost use Rattle.store.specs.Scan.{FindsLeast, open_key, next_key};
+
+use std::marker::Model;
 
 // How many states a level of the words has, how many levels, and how many nodes in all.
 const STATES: u64 = 65536;
@@ -14,12 +17,10 @@ const LEVELS: u64 = 1024;
 
 const NODES: u64 = 67108864;
 
-// No order word is larger.
-const LARGEST: u64 = 18446744073709551615;
-
 // A row of the memory: a node with its cost so far, how many paths of that cost were found up to the cap, the index of the row before
-// it and the input between them, and whether it was expanded.
-#[derive(Clone, Copy)]
+// it and the input between them, and whether it was expanded. (That it is small stands in clauses and is no ghost field: with it each write
+// of one field, as in `join` and `close`, would have to show all six bounds again.)
+#[derive(Clone, Copy, Debug, PartialEq, Eq)]
 pub struct Held {
     pub cost: u64,
     pub level: u64,
@@ -30,165 +31,223 @@ pub struct Held {
     pub closed: bool,
 }
 
-// The memory with the origin alone.
-pub fn start(work: &mut [u64])
-    requires { 3 ≤ length work.old }
-    ensures { Shows work.old work.new 1 started }
-{
-    let origin = Held {
-        cost: 0,
-        level: 0,
-        state: 0,
-        count: 1,
-        parent: 0,
-        input: 0,
-        closed: false,
-    };
-    put(&mut *work, 0, origin);
+// The nodes that a search has met, in lent memory of three words a node. (Words with a count, and indices for links: the memory is lent and
+// fixed, no heap.)
+#[derive(Drop)]
+pub struct Nodes<'a> {
+    words: &'a mut [u64],
+    count: usize,
 }
 
-// The row at an index.
-pub fn row(work: &[u64], n: usize, i: usize) -> Held
-    requires fact_1 { Stored work.now n }
-    requires fact_2 { i < n }
-    ensures { (row_of result ≡ row_at (rows_of work.now n) i) × Small result }
-{
-    let order = work[3 * i];
-    let rest = work[3 * i + 1];
-    Held {
-        cost: order / NODES,
-        level: order / STATES % LEVELS,
-        state: order % STATES,
-        count: rest / 2 % 256,
-        parent: rest / 131072 % 8192,
-        input: rest / 512 % 256,
-        closed: rest % 2 == 1,
+impl<'a> Model for Nodes<'a> {
+    ghost use Rattle.std.specs.Prelude.{◌*◌, ◌≤◌, length};
+    ghost use Rattle.store.specs.Memory.{Shown, rows_of};
+
+    ghost Value = { Shown };
+
+    ghost view = { λ s. record { words = length s.words.now; rows = rows_of s.words.now s.count } };
+
+    ghost invariant = { λ s. 3 * s.count ≤ length s.words.now };
+}
+
+#[tactic(auto, using(crate::proofs::Rows::length_rows_of))]
+impl<'a> Nodes<'a> {
+    // No rows yet, whatever stood in the memory.
+    pub fn new(words: &'a mut [u64]) -> Nodes<'a>
+        ensures { result ≡ record { words = length words.old; rows = [] } }
+    {
+        Nodes { words, count: 0 }
     }
-}
 
-// The index of a node's row; n if it has none.
-pub fn find(work: &[u64], n: usize, level: u64, state: u64) -> usize
-    requires fact_1 { Stored work.now n }
-    requires fact_2 { (level < 2 ^ 10) × (state < 2 ^ 16) }
-    ensures { result ≡ find_row (node level state) (rows_of work.now n) }
-{
-    let wanted = level * STATES + state;
-    let mut i = 0usize;
-    while i < n {
-        let order = work[3 * i];
-        if order % NODES == wanted {
-            return i;
+    // How many rows there are.
+    pub fn len(&self) -> usize
+        ensures count { result ≡ length self.now.rows }
+        ensures room { 3 * length self.now.rows ≤ self.now.words }
+    {
+        let Nodes { count, .. } = self;
+        *count
+    }
+
+    // How many words the memory has.
+    pub fn words(&self) -> usize
+        ensures { result ≡ self.now.words }
+    {
+        self.words.len()
+    }
+
+    // The origin alone, whatever stood there.
+    pub fn start(&mut self)
+        requires { 3 ≤ self.old.words }
+        ensures { self.new ≡ showing self.old started }
+    {
+        let origin = Held {
+            cost: 0,
+            level: 0,
+            state: 0,
+            count: 1,
+            parent: 0,
+            input: 0,
+            closed: false,
+        };
+        put(self.words, 0, origin);
+        self.count = 1;
+    }
+
+    // The row at an index. (No `From`: the clauses speak of the row at an index.)
+    pub fn row(&self, i: usize) -> Held
+        requires { i < length self.now.rows }
+        ensures row { row_of result ≡ row_at self.now.rows i }
+        ensures small { Small result }
+    {
+        let (order, rest) = get(self.words, i);
+        Held {
+            cost: order / NODES,
+            level: order / STATES % LEVELS,
+            state: order % STATES,
+            count: rest / 2 % 256,
+            parent: rest / 131072 % 8192,
+            input: rest / 512 % 256,
+            closed: rest % 2 == 1,
         }
-        i += 1;
     }
-    n
+
+    // The index of a node's row.
+    #[tactic(auto, using(crate::proofs::Rows::length_rows_of, crate::proofs::Scans::finding_stop, crate::proofs::Scans::finding_next))]
+    pub fn find(&self, level: u64, state: u64) -> Option<usize>
+        requires level { level < 2 ^ 10 }
+        requires state { state < 2 ^ 16 }
+        ensures { result ≡ found_at self.now.rows (find_row (node level state) self.now.rows) }
+    {
+        let wanted = level * STATES + state;
+        for i in 0..self.count {
+            // The order word alone: `get`, which reads both, makes this scan slower.
+            let order = self.words[3 * i];
+            if order % NODES == wanted {
+                return Some(i);
+            }
+        }
+        None
+    }
+
+    // The index of the open row that is first in node order; of rows that stand equal, the first.
+    pub fn first_open(&self) -> Option<usize>
+        ensures { result ≡ found_at self.now.rows (first_open self.now.rows) }
+    {
+        let key = |order: u64, rest: u64| -> Option<u64>
+            ensures { result ≡ open_key order rest }
+        { (rest % 2 != 1).then_some(order) };
+        least(self.words, self.count, key)
+    }
+
+    // The index of the closed row whose node comes next after that of row k, by level, then state.
+    pub fn next_closed(&self, k: usize) -> Option<usize>
+        requires { k < length self.now.rows }
+        ensures { result ≡ found_at self.now.rows (next_closed (node_at self.now.rows k) self.now.rows) }
+    {
+        let (order, _) = get(self.words, k);
+        let last = order % NODES;
+        let key = |order: u64, rest: u64| -> Option<u64>
+            ensures { result ≡ next_key last order rest }
+        {
+            let number = order % NODES;
+            // Tried as `then_some`: a decode with its sheet took a third longer.
+            if rest % 2 == 1 && last < number {
+                Some(number)
+            } else {
+                None
+            }
+        };
+        least(self.words, self.count, key)
+    }
+
+    // A row more at the end.
+    pub fn add(&mut self, r: Held)
+        requires room { 3 * (length self.old.rows + 1) ≤ self.old.words }
+        requires small { Small r }
+        ensures { self.new ≡ showing self.old (added self.old.rows (row_of r)) }
+    {
+        put(self.words, self.count, r);
+        self.count += 1;
+    }
+
+    // A cheaper way to the node of row i, which the row keeps.
+    pub fn lower(&mut self, i: usize, r: Held)
+        requires index { i < length self.old.rows }
+        requires small { Small r }
+        requires same_node { (row_of r).entry.node ≡ node_at self.old.rows i }
+        ensures { self.new ≡ showing self.old (lowered self.old.rows i (row_of r)) }
+    {
+        self.set(i, r);
+    }
+
+    // So many more paths of the same cost to the node of row i, stopped at the cap.
+    pub fn join(&mut self, i: usize, cap: u64, more: u64)
+        requires index { i < length self.old.rows }
+        requires cap { cap < 2 ^ 8 }
+        requires more { more < 2 ^ 8 }
+        ensures { self.new ≡ showing self.old (joined cap self.old.rows i more) }
+    {
+        let mut r = self.row(i);
+        r.count = (r.count + more).min(cap);
+        self.set(i, r);
+    }
+
+    // Row i, the first open one, is expanded.
+    pub fn close(&mut self, i: usize)
+        requires index { i < length self.old.rows }
+        requires first { i ≡ first_open self.old.rows }
+        ensures { self.new ≡ showing self.old (closed self.old.rows i) }
+    {
+        let mut r = self.row(i);
+        r.closed = true;
+        self.set(i, r);
+    }
+
+    // Row i written anew.
+    fn set(&mut self, i: usize, r: Held)
+        requires index { i < length self.old.rows }
+        requires small { Small r }
+        ensures { self.new ≡ showing self.old (set self.old.rows i (row_of r)) }
+    {
+        put(self.words, i, r);
+    }
 }
 
-// The index of the open row that is first in node order; n if none is open. Of rows that stand equal the first is taken, so the
-// scan goes downwards.
-pub fn first_open(work: &[u64], n: usize) -> usize
-    requires { Stored work.now n }
-    ensures { result ≡ first_open (rows_of work.now n) }
+// The index of the row whose words have the least key, of equal ones the first. Rows without a key are passed over. (This and the next two
+// take the slice and no `Nodes`: a clause of a method cannot name its fields.)
+fn least<F: Fn(u64, u64) -> Option<u64>>(work: &[u64], n: usize, key: F) -> Option<usize>
+    requires room { 3 * n ≤ length work.now }
+    requires callable { F.IsAlwaysCallable key }
+    ensures { (f : List Row → ℕ) → FindsLeast (F.post key) f
+        → result ≡ found_at (rows_of work.now n) (f (rows_of work.now n)) }
 {
+    // None is n until the end. Tried as an `Option`: a whole decode took a third longer.
     let mut best = n;
-    let mut lowest = LARGEST;
-    let mut i = n;
-    while 0 < i {
-        i -= 1;
-        let order = work[3 * i];
-        let rest = work[3 * i + 1];
-        if rest % 2 != 1 {
-            if order <= lowest {
+    let mut lowest = u64::MAX;
+    for i in (0..n).rev() {
+        let (order, rest) = get(work, i);
+        if let Some(k) = key(order, rest) {
+            if k <= lowest {
                 best = i;
-                lowest = order;
+                lowest = k;
             }
         }
     }
-    best
+    (best < n).then_some(best)
 }
 
-// The index of the closed row whose node comes next after that of row k, by level, then state; n if there is none.
-pub fn next_closed(work: &[u64], n: usize, k: usize) -> usize
-    requires fact_1 { Stored work.now n }
-    requires fact_2 { k < n }
-    ensures { result ≡ next_closed (node_at (rows_of work.now n) k) (rows_of work.now n) }
+// Reads the two words of row i.
+fn get(work: &[u64], i: usize) -> (u64, u64)
+    requires { 3 * (i + 1) ≤ length work.now }
+    ensures { result ≡ (order_at work.now i, rest_at work.now i) }
 {
-    let last = work[3 * k] % NODES;
-    let mut best = n;
-    let mut lowest = NODES;
-    let mut i = n;
-    while 0 < i {
-        i -= 1;
-        let number = work[3 * i] % NODES;
-        let rest = work[3 * i + 1];
-        if rest % 2 == 1 {
-            if last < number {
-                if number <= lowest {
-                    best = i;
-                    lowest = number;
-                }
-            }
-        }
-    }
-    best
-}
-
-// A row more at the end.
-pub fn add(work: &mut [u64], n: usize, r: Held)
-    requires fact_1 { Stored work.old n }
-    requires fact_2 { 3 * (n + 1) ≤ length work.old }
-    requires fact_3 { Small r }
-    ensures { Shows work.old work.new (n + 1) (added (rows_of work.old n) (row_of r)) }
-{
-    put(&mut *work, n, r);
-}
-
-// A cheaper way to the node of row i, which the row keeps.
-pub fn lower(work: &mut [u64], n: usize, i: usize, r: Held)
-    requires stored_1 { Stored work.old n }
-    requires stored_2 { i < n }
-    requires stored_3 { Small r }
-    requires r_value { (row_of r).entry.node ≡ node_at (rows_of work.old n) i }
-    ensures { Shows work.old work.new n (lowered (rows_of work.old n) i (row_of r)) }
-{
-    put(&mut *work, i, r);
-}
-
-// So many more paths of the same cost to the node of row i, stopped at the cap.
-pub fn join(work: &mut [u64], n: usize, i: usize, cap: u64, more: u64)
-    requires fact_1 { Stored work.old n }
-    requires fact_2 { i < n }
-    requires fact_3 { (cap < 2 ^ 8) × (more < 2 ^ 8) }
-    ensures { Shows work.old work.new n (joined cap (rows_of work.old n) i more) }
-{
-    let mut r = row(&*work, n, i);
-    r.count = stopped(cap, r.count + more);
-    put(&mut *work, i, r);
-}
-
-// Row i, the first open one, is expanded.
-pub fn close(work: &mut [u64], n: usize, i: usize)
-    requires stored_1 { Stored work.old n }
-    requires stored_2 { i < n }
-    requires i_value { i ≡ first_open (rows_of work.old n) }
-    ensures { Shows work.old work.new n (closed (rows_of work.old n) i) }
-{
-    let mut r = row(&*work, n, i);
-    r.closed = true;
-    put(&mut *work, i, r);
-}
-
-// A number stopped at the cap.
-fn stopped(cap: u64, count: u64) -> u64
-    ensures { result ≡ min cap count }
-{
-    if count < cap { count } else { cap }
+    (work[3 * i], work[3 * i + 1])
 }
 
 // Writes the two words of row i.
 fn put(work: &mut [u64], i: usize, r: Held)
-    requires fact_1 { 3 * (i + 1) ≤ length work.old }
-    requires fact_2 { Small r }
+    requires room { 3 * (i + 1) ≤ length work.old }
+    requires small { Small r }
     ensures { work.new ≡ written work.old i r }
 {
     let order = order_word(r);
@@ -197,7 +256,7 @@ fn put(work: &mut [u64], i: usize, r: Held)
     work[3 * i + 1] = rest;
 }
 
-// Two order words compare as cost, then level, then state do.
+// Two order words compare as cost, then level, then state do. No `From`, here and for the other word: it could not ask that the row is small.
 fn order_word(r: Held) -> u64
     requires { Small r }
     ensures { result ≡ order_word r }

@@ -12,14 +12,10 @@ use Rattle.trellis.specs.Sheet.{onto}
 use Rattle.trellis.specs.Lawful.{start}
 use Rattle.trellis.specs.Search.{Row, row_at, entry_at, node_at, started, gained, shut, closed, Tried, arrival, relax, onward, fan, expand}
 use Rattle.trellis.specs.Safe.{SafeRow, Safe}
-use Rattle.trellis.proofs.Paths.{ends_here, allowed_message, allowed_tail, allowed_none, path_short}
+use Rattle.trellis.proofs.Paths.{ends_here, allowed_message, allowed_tail, allowed_none}
 use Rattle.trellis.proofs.Step.{attains_onto}
 use Rattle.trellis.proofs.Rows.{Changed, set_changed, added_changed}
 use Rattle.trellis.proofs.Entered.{Entered, lowers, joins, leaves, adds, stops, entered_is}
-
--- no row stands above the top
-pub safe_level : {t : Trellis} {cap n : ℕ} {r : Row} → SafeRow t cap n r → r.entry.node.level ≤ top t
-safe_level s = let h = s.attained.attains.there in omega (arith, path_short h.allowed, h.level)
 
 -- ---- changes
 

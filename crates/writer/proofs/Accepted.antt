@@ -82,8 +82,7 @@ module _ (c : Code) (l : ℕ) (symbols : List ℤ) (room allowance words : ℕ) 
       where
         given : answer ≡ written bytes message sheet (decoder.handed 0 (metric_of t w) (steps t) exit)
         given =
-            sym (answered_sheeting c l symbols room allowance words message sheet (metric_of t w) (steps t) exit
-            (sym (answers_in c l symbols room allowance words message a)))
+            sym (answered_sheeting c l symbols room allowance words message sheet (sym (answers_in c l symbols room allowance words message a)))
             ∙ ap (λ (v : List ℕ). written (sheet_bytes l (honest_sheet t v)) message sheet (decoder.handed 0 (metric_of t w) (steps t) exit)) front
 
         go : Dec (length sheet < length bytes) → answer ≡ handed 0 (metric_of t w) (steps t) (length bytes) exit (bytes ++ drop (length bytes) sheet)

@@ -14,7 +14,7 @@ use Rattle.lists.proofs.Tests.{true_out}
 use Rattle.lists.proofs.Membership.{all_in}
 use Rattle.lists.proofs.Places.{place_in}
 use Rattle.codes.specs.declared.table.Code.{Code}
-use Rattle.codes.specs.Codes.{lawful}
+use Rattle.codes.specs.Limits.{longest_message}
 use Rattle.codes.specs.Encoding.{is_bit}
 use Rattle.trellis.specs.Trellis.{Trellis, Path, top, terminal}
 use Rattle.trellis.specs.Verdict.{Entry, least_metric, messages}
@@ -32,17 +32,18 @@ use Rattle.trellis.proofs.Listing.{no_entry, Listing, honest_start, honest_next}
 use Rattle.blocks.specs.Symbols.{view}
 use Rattle.blocks.specs.Blocks.{trellis_of}
 use Rattle.blocks.proofs.Closing.{trellis_lawful}
-use Rattle.store.specs.Memory.{rows_of}
-use Rattle.store.proofs.Rows.{length_rows_of}
-use Rattle.search.specs.Decoding.{told, sizes_fit, handed, decoding}
-use Rattle.search.specs.Work.{cap, in_front}
-use Rattle.search.specs.Settling.{Answer}
+use Rattle.store.specs.Memory.{Shown, showing}
+use Rattle.search.specs.Decoding.{told, handed, decoding}
+use Rattle.search.specs.Work.{cap, Traceable, in_front}
+use Rattle.search.specs.Settling.{Answer, Passed}
+use Rattle.search.specs.declared.decoder.Settled.{Settled}
 use Rattle.search.proofs.Decodings.{decoding_verdict}
 use Rattle.search.proofs.Tracing.{front_whole}
-use Rattle.search.proofs.Halting.{answer_told}
+use Rattle.search.proofs.Sizes.{Fit, sizes_fit_out}
+use Rattle.search.proofs.Halting.{answer_traceable, answer_told}
 use Rattle.sheets.specs.Bytes.{sheet_bytes}
-use Rattle.sheets.specs.Checking.{honest_sheet}
-use Rattle.sheets.specs.Steps.{sheet_size}
+use Rattle.sheets.specs.Checking.{most_entries, honest_sheet}
+use Rattle.sheets.specs.Steps.{sheet_size, Puttable}
 use Rattle.sheets.proofs.Written.{length_sheet_bytes}
 use Rattle.writer.specs.Work.{listed, Listable, sheet_of}
 
@@ -79,76 +80,107 @@ module _ (t : Trellis) (m : ℕ) {rows : List Row} (H : Holds (honest t m) rows)
 
 -- ---- an answer
 
-module _ (c : Code) (l : ℕ) (symbols : List ℤ) {room allowance : ℕ} {first work : List ℕ} {metric done rows row : ℕ}
-    (A : Answer (trellis_of c l (view symbols)) room allowance first work metric done rows row) where
+module _ {c : Code} {l : ℕ} {symbols : List ℤ} {room allowance : ℕ} {first : Shown} {buffer : ℕ} {nodes : Shown} {s : Settled}
+    (P : Passed c l symbols room allowance first buffer nodes s) where
   abbrev t : Trellis
   t = trellis_of c l (view symbols)
 
   law : Lawful t
   law = trellis_lawful c l (view symbols)
 
+  abbrev A : Answer t room allowance first nodes s
+  A = P.answer
+
+  -- all sizes are as stated
+  pub sizes : Fit c l (length symbols) room first.words buffer
+  sizes = sizes_fit_out c l (length symbols) room first.words buffer P.fits
+
+  -- the memory shows the rows that the search left
+  shown_rows : nodes.rows ≡ (searched t cap room allowance).rows
+  shown_rows = ap (λ (x : Shown). x.rows) A.shows
+
   -- what the search found is right
-  right : Right t cap (searched t cap room allowance).rows metric done A.count row
-  right = searched_right law cap room allowance (omega arith) metric done A.count row A.outcome
+  right : Right t cap (searched t cap room allowance).rows s.found.metric s.found.steps A.count s.row
+  right = searched_right law cap room allowance (omega arith) s.found.metric s.found.steps A.count s.row A.outcome
 
   -- the terminal's row is the first open one
-  pub answer_left : Left t (rows_of work rows) row
-  answer_left = rw A.shows.rows (searched_left law cap room allowance (omega arith) metric done A.count row A.outcome)
+  pub answer_left : Left t nodes.rows s.row
+  answer_left = rw shown_rows (searched_left law cap room allowance (omega arith) s.found.metric s.found.steps A.count s.row A.outcome)
 
   -- the way to the terminal, and its message
   abbrev way : Path
-  way = trace (rows_of work rows) (top t) row
+  way = trace nodes.rows (top t) s.row
 
-  abbrev pub word : List ℕ
+  abbrev word : List ℕ
   word = message_of t way
+
+  -- for the trace: the rows on that way are there
+  pub way_there : Traceable nodes.rows (top t) s.row
+  way_there = answer_traceable law A
 
   -- L bits
   word_whole : Word 2 l word
   unfolding messages
   word_whole =
-      let there : Ends t (terminal t) way = rw A.shows.rows right.traced.there in
+      let there : Ends t (terminal t) way = rw shown_rows right.traced.there in
       words_out 2 l (message_of_in t there.allowed there.level)
 
-  -- for the part that is lent on: its length
-  pub length_word : length word ≡ l
-  length_word = word_whole.length
-
-  -- and that it is bits
-  pub word_all : all is_bit word ≡ true
+  word_all : all is_bit word ≡ true
   word_all = true_out (all is_bit word) (all_in is_bit word (λ b m. let h : b < 2 = word_whole.fits b m in le→leb b 1 (omega arith)))
 
   -- E + 1 entries, no more than the room
-  pub entries_count : done + 1 ≡ length (honest t (least_metric t))
+  pub entries_count : s.found.steps + 1 ≡ length (honest t (least_metric t))
   entries_count = omega (arith, length_honest law, right.ended)
 
   -- so the count fits its two bytes
-  pub entries_few : done + 1 ≤ room
+  entries_few : s.found.steps + 1 ≤ room
   entries_few =
-      let same = length-set (rows_of work rows) row (shut (row_at (rows_of work rows) row)) in
-      omega (arith, length_holds law answer_left.holds, right.ended, same, length_rows_of work rows, A.most)
+      let same = length-set nodes.rows s.row (shut (row_at nodes.rows s.row)) in
+      omega (arith, length_holds law answer_left.holds, right.ended, same, A.most)
+
+  -- for the size: a sheet of so many entries can be put
+  pub sizable : (l ≤ longest_message) × (s.found.steps + 1 ≤ most_entries)
+  sizable = (sizes.long, omega (arith, entries_few, sizes.small))
 
   -- ---- the message is written
 
-  module _ (message exit : List ℕ) (e : exit ≡ in_front l (top t) way message) where
+  module _ (message : List ℕ) (whole : length message ≡ buffer) {exit : List ℕ} (e : exit ≡ in_front l (top t) way message) where
     -- as `decode` would
-    pub answer_decoding : (words : ℕ) → lawful c ≡ true → sizes_fit c l (length symbols) room words (length message) ≡ true
-        → handed 0 metric done exit ≡ decoding c l symbols room allowance words message
+    pub answer_decoding : handed 0 s.found.metric s.found.steps exit ≡ decoding c l symbols room allowance first.words message
     unfolding told
-    answer_decoding words h k = answer_told law A message exit e ∙ sym (decoding_verdict c l symbols room allowance words message h k)
+    answer_decoding =
+        answer_told law A message exit e
+        ∙ sym (decoding_verdict c l symbols room allowance first.words message P.lawful (rw whole P.fits))
 
     -- in front of the buffer
-    pub exit_front : take l exit ≡ word
-    exit_front = ap (take l) (e ∙ front_whole t way message (length_trace (rows_of work rows) (top t) row)) ∙ take_at word _ l length_word
+    exit_front : take l exit ≡ word
+    exit_front = ap (take l) (e ∙ front_whole t way message (length_trace nodes.rows (top t) s.row)) ∙ take_at word _ l word_whole.length
+
+    -- L bits, for the sheet's message
+    pub length_front : length (take l exit) ≡ l
+    length_front = ap length exit_front ∙ word_whole.length
+
+    pub front_bits : all is_bit (take l exit) ≡ true
+    front_bits = ap (all is_bit) exit_front ∙ word_all
 
     -- the size of its sheet
-    pub sheet_size_lem : sheet_size l (done + 1) ≡ length (sheet_bytes l (honest_sheet t (take l exit)))
+    pub sheet_size_lem : sheet_size l (s.found.steps + 1) ≡ length (sheet_bytes l (honest_sheet t (take l exit)))
     sheet_size_lem = omega (arith, length_sheet_bytes l (honest_sheet t (take l exit)), entries_count)
+
+    -- there is room for it
+    pub front_puttable : (sheet : List ℕ) → sheet_size l (s.found.steps + 1) ≤ length sheet
+        → Puttable (length (take l exit)) (s.found.steps + 1) sheet
+    front_puttable sheet h = record {
+      span = omega (arith, length_front, sizes.long);
+      most = sizable.1;
+      room = omega (arith, length_front, h);
+    }
 
     -- ---- the sheet is put, from any memory that shows the rows with the terminal's closed
 
-    module _ {shown : List Row} (as_closed : shown ≡ closed (rows_of work rows) row) where
+    module _ {after : Shown} (as_closed : after ≡ showing nodes (closed nodes.rows s.row)) where
       -- its closed rows hold the honest entries
-      shown_holds : Holds (honest t (least_metric t)) shown
+      shown_holds : Holds (honest t (least_metric t)) after.rows
       shown_holds = rw as_closed answer_left.holds
 
       -- the costs fit four bytes
@@ -156,13 +188,12 @@ module _ (c : Code) (l : ℕ) (symbols : List ℤ) {room allowance : ℕ} {first
       light = omega (arith, A.light, right.least)
 
       -- for the writing: the entries can be put
-      pub shown_listable : Listable shown (done + 1) 0
-      shown_listable = listable_honest t (least_metric t) shown_holds light (done + 1) entries_count
+      pub shown_listable : Listable after.rows (s.found.steps + 1) 0
+      shown_listable = listable_honest t (least_metric t) shown_holds light (s.found.steps + 1) entries_count
 
       -- and what is put is the honest sheet
-      pub answer_sheet : (bits : List ℕ) → bits ≡ take l exit
-          → sheet_bytes (length bits) (sheet_of metric bits (listed shown (done + 1) 0)) ≡ sheet_bytes l (honest_sheet t (take l exit))
-      answer_sheet bits b =
-          let n : length bits ≡ l = ap length (b ∙ exit_front) ∙ length_word in
-          let es : listed shown (done + 1) 0 ≡ honest t (least_metric t) = listed_honest t (least_metric t) shown_holds light (done + 1) entries_count in
-          λ z. sheet_bytes (n z) (sheet_of (sym right.least z) (b z) (es z))
+      pub answer_sheet : sheet_bytes (length (take l exit)) (sheet_of s.found.metric (take l exit) (listed after.rows (s.found.steps + 1) 0))
+          ≡ sheet_bytes l (honest_sheet t (take l exit))
+      answer_sheet =
+          let es : listed after.rows (s.found.steps + 1) 0 ≡ honest t (least_metric t) = listed_honest t (least_metric t) shown_holds light (s.found.steps + 1) entries_count in
+          λ z. sheet_bytes (length_front z) (sheet_of (sym right.least z) (take l exit) (es z))

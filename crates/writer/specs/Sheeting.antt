@@ -1,15 +1,17 @@
 -- What `decode_sheet` answers and writes, for every input: everything of `decode`, then 9, then the honest sheet. Document 01, 'The
 -- decision sheet' and the row of refusal 9. Believed, and read after Decoding, Bytes and Checking.
 -- Assumes nothing.
-use Rattle.std.specs.Prelude.{List, ◌++◌, cond, ℕ, eqb, ltb, ℤ, length, take, drop}
+use Rattle.std.specs.Prelude.{List, ◌++◌, cond, ℕ, eqb, ltb, ℤ, length, take, drop, Result, Ok, Err}
 use Rattle.codes.specs.declared.table.Code.{Code}
 use Rattle.blocks.specs.Symbols.{view}
 use Rattle.blocks.specs.Blocks.{trellis_of}
 use Rattle.search.specs.Decoding.{Decoding, decoding}
+use Rattle.search.specs.Decoding as decoder
 use Rattle.sheets.specs.Bytes.{sheet_bytes}
 use Rattle.sheets.specs.Checking.{honest_sheet}
-use Rattle.writer.specs.declared.writer.DecodedSheet.{DecodedSheet}
-use Rattle.writer.specs.declared.writer.DecodedSheet.TheVariants.{Done, BadCode, BadSize, NoRoom, NoAllowance, Tied, NoSheetRoom}
+use Rattle.writer.specs.declared.writer.FoundSheet.{FoundSheet}
+use Rattle.writer.specs.declared.writer.SheetError.{SheetError}
+use Rattle.writer.specs.declared.writer.SheetError.TheVariants.{Decode, NoSheetRoom}
 
 -- What is handed back: the paper's number ('No.'), metric, steps and 'its length too' or 'the size needed', and both buffers as they are
 -- then.
@@ -26,15 +28,14 @@ abbrev pub handed : (number metric steps size : ℕ) (message sheet : List ℕ) 
 handed number metric steps size message sheet =
     record { number = number; metric = metric; steps = steps; size = size; message = message; sheet = sheet }
 
--- 'For each case of an enum answer, a definition gives this paper's number and values'; 'Values not named in a row are 0.'
-unfoldable pub told : DecodedSheet → List ℕ → List ℕ → Sheeting
-told (Done metric steps bytes) message sheet = handed 0 metric steps bytes message sheet
-told BadCode message sheet = handed 1 0 0 0 message sheet
-told BadSize message sheet = handed 2 0 0 0 message sheet
-told (NoRoom steps) message sheet = handed 3 0 steps 0 message sheet
-told (NoAllowance steps) message sheet = handed 4 0 steps 0 message sheet
-told (Tied metric steps) message sheet = handed 5 metric steps 0 message sheet
-told (NoSheetRoom bytes) message sheet = handed 9 0 0 bytes message sheet
+-- 'For each case of an enum answer, a definition gives this paper's number and values', those of a refusal of `decode` as it tells them;
+-- 'Values not named in a row are 0.'
+unfoldable pub told : Result FoundSheet SheetError → List ℕ → List ℕ → Sheeting
+told (Ok found) message sheet = handed 0 found.metric found.steps found.bytes message sheet
+told (Err (Decode e)) message sheet =
+    let d : Decoding = decoder.told (Err e) message in
+    handed d.number d.metric d.steps 0 message sheet
+told (Err (NoSheetRoom bytes)) message sheet = handed 9 0 0 bytes message sheet
 
 -- the bytes of 'the honest sheet' of what a decode answered, its message the first L bytes of the buffer
 unfoldable pub honest_bytes : Code → ℕ → List ℤ → Decoding → List ℕ

@@ -2,34 +2,30 @@
 ghost use Rattle.std.specs.Prelude.{◌≡◌, ◌+◌, ◌*◌, ◌≤◌, length};
 ghost use mathlib.Core.List.{flat_map};
 ghost use Rattle.std.proofs.lemmas.List.Edits.{sets};
-ghost use Rattle.store.specs.Memory.{rows_of};
 ghost use Rattle.sheets.specs.Bytes.{entry_bytes};
-ghost use Rattle.writer.specs.Work.{listed, HoldsEntries};
+ghost use Rattle.writer.specs.Work.{listed, Listable};
 
 use sheets::put::put_entry;
-use store::{next_closed, row};
+use store::Nodes;
 
 // Puts so many entries from a place on: the origin's row, and each time the closed row whose node comes next.
-pub fn put_entries(work: &[u64], n: usize, count: usize, place: usize, sheet: &mut [u8])
-    requires fact_1 { HoldsEntries work.now n count }
-    requires fact_2 { place + 8 * count ≤ length sheet.old }
+pub fn put_entries(nodes: &Nodes<'_>, count: usize, place: usize, sheet: &mut [u8])
+    requires listable { Listable nodes.now.rows count 0 }
+    requires room { place + 8 * count ≤ length sheet.old }
     ensures { sheet.new
-        ≡ sets sheet.old place (flat_map entry_bytes (listed (rows_of work.now n) count 0)) }
+        ≡ sets sheet.old place (flat_map entry_bytes (listed nodes.now.rows count 0)) }
 {
-    let mut k = 0usize;
-    let mut at = place;
-    let mut left = count;
-    while 0 < left {
-        let here = row(work, n, k);
+    let mut next = Some(0);
+    for i in 0..count {
+        let k = next.unwrap();
+        let here = nodes.row(k);
         put_entry(
             &mut *sheet,
-            at,
+            place + 8 * i,
             here.level as u16,
             here.state as u16,
             here.cost as u32,
         );
-        k = next_closed(work, n, k);
-        at += 8;
-        left -= 1;
+        next = nodes.next_closed(k);
     }
 }

@@ -6,6 +6,7 @@ use native.Mathlib.Nat.{zero-add}
 use native.Mathlib.Omega.{arith}
 use lib.IntN.{ℤ, pos}
 use lib.ListN.{get_or}
+use Rattle.std.proofs.Common.{rules}
 use Rattle.lists.proofs.Writing.{filling_next, filling_done}
 use Rattle.blocks.specs.Symbols.{hard_bit, weight, view}
 use Rattle.blocks.specs.Packed.{packed}
@@ -20,7 +21,7 @@ loop-i-preserved c =
     let z = get_or symbols i (pos 0) in
     let v : c.number.result ≡ get_or (packed (view symbols)) i 0 =
     c.number.ensures
-    ∙ ap (λ (x : ℤ). weight x * 2 + hard_bit x) (byte_back z (record { sfits = c.number-arg-1.given }))
+    ∙ ap (λ (x : ℤ). weight x * 2 + hard_bit x) (byte_back z (search rules))
     ∙ sym (packed_at symbols i) in
     rw v (simp zero-add at (filling_next 0 (omega (arith, length_packed symbols)) c.loop-i.invariant))
 

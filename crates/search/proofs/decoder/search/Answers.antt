@@ -1,41 +1,24 @@
 -- `decoder::search` meets its contract: each way in which the run halted is settled as the verdict says (Halting). Assumes nothing.
-use Prim.Native.Nat.{◌<◌}
 use native.Mathlib.Omega.{arith}
-use Rattle.search.specs.Work.{heaviest, Searchable}
-use Rattle.search.proofs.Sizes.{sized_searchable}
-use Rattle.search.proofs.Halting.{halt_full, halt_spent, halt_light, halt_tied, halt_answered}
+use Rattle.std.proofs.lemmas.Result.{err_from_is_err_and}
+use Rattle.search.proofs.Halting.{none_refused, halt_refused, halt_light, halt_tied, halt_answered}
 use Rattle.search.proofs.decoder.search.Goals as goal
 
-pub run-halt-requires-clause-fact_1 : goal.run-halt-requires-clause-fact_1
-run-halt-requires-clause-fact_1 c =
-    let searchable : Searchable c.args.code c.args.length c.args.seen.now = sized_searchable c.requires.fact_1 (λ i. (c.shared_slice_known-1.given i).fits) in
-    searchable
+pub returns-then-room-eq0 : goal.returns-then-room-eq0
+returns-then-room-eq0 c = none_refused c.args.block.now c.args.room c.args.allowance c.if-room-eq0.true
+
+pub returns-in_err-metric : goal.returns-in_err-metric
+returns-in_err-metric c =
+    let p = err_from_is_err_and c.from_residual.result c.from_residual.ensures.1 in
+    rw (p.1, p.2) (halt_refused c.args.block.now c.args.room c.args.allowance c.in_err-metric.ensures)
 
 pub overflow_cast-metric : goal.overflow_cast-metric
 overflow_cast-metric c =
-    let searchable : Searchable c.args.code c.args.length c.args.seen.now = sized_searchable c.requires.fact_1 (λ i. (c.shared_slice_known-1.given i).fits) in
-    let light : c.in-Terminal.metric < heaviest =
-    halt_light c.args.code c.args.length c.args.seen.now c.args.room c.args.allowance c.run-halt.ensures _ _ _ _
-    searchable c.in-Terminal.is in
+    let light = halt_light c.args.block.now c.args.room c.args.allowance c.in_ok-metric.ensures in
     omega arith
 
 pub returns-then-count-gt1 : goal.returns-then-count-gt1
-returns-then-count-gt1 c =
-    let searchable : Searchable c.args.code c.args.length c.args.seen.now = sized_searchable c.requires.fact_1 (λ i. (c.shared_slice_known-1.given i).fits) in
-    halt_tied c.args.code c.args.length c.args.seen.now c.args.room c.args.allowance c.run-halt.ensures _ _ _ _
-    searchable c.in-Terminal.is _ _ (omega (arith, c.if-count-gt1.true))
+returns-then-count-gt1 c = halt_tied c.args.block.now c.args.room c.args.allowance c.in_ok-metric.ensures (omega arith)
 
-pub returns-in-Full : goal.returns-in-Full
-returns-in-Full c =
-    halt_full c.args.code c.args.length c.args.seen.now c.args.room c.args.allowance c.run-halt.ensures _ _ _ c.in-Full.is
-
-pub returns-in-Spent : goal.returns-in-Spent
-returns-in-Spent c =
-    halt_spent c.args.code c.args.length c.args.seen.now c.args.room c.args.allowance c.run-halt.ensures _ _ _
-    c.in-Spent.is
-
-pub returns-else-count-gt1 : goal.returns-else-count-gt1
-returns-else-count-gt1 c =
-    let searchable : Searchable c.args.code c.args.length c.args.seen.now = sized_searchable c.requires.fact_1 (λ i. (c.shared_slice_known-1.given i).fits) in
-    halt_answered c.args.code c.args.length c.args.seen.now c.args.room c.args.allowance c.run-halt.ensures _ _ _ _
-    searchable c.in-Terminal.is c.if-count-gt1.false
+pub returns : goal.returns
+returns c = halt_answered c.args.block.now c.args.room c.args.allowance c.in_ok-metric.ensures (omega arith)

@@ -1,89 +1,48 @@
 -- `search::decoder::settle` meets its contract: each test decides a row of the definition, in its order, and past them what was seen
 -- shows the view of the symbols, so that the search's verdict is theirs. Assumes nothing.
-use mathlib.Core.Path.{◌≡◌, sym, ap, ◌∙◌}
-use mathlib.Core.Bool.{true}
-use mathlib.Core.List.{List}
-use Prim.Native.Nat.{ℕ, ◌≤◌}
+use mathlib.Core.Path.{sym, ◌∙◌}
 use native.Mathlib.Omega.{arith}
-use borrow.Author.Tests.{not-true, not-false}
-use lib.IntN.{ℤ}
-use lib.ListN.{length, take}
-use Rattle.codes.specs.Codes.{lawful}
-use Rattle.codes.proofs.Rules.{Bounds, lawful_out}
-use Rattle.blocks.specs.Symbols.{view}
-use Rattle.blocks.specs.Packed.{packed, seen_in}
-use Rattle.blocks.proofs.Packing.{length_packed, seen_in_packed, see_part}
-use Rattle.blocks.proofs.Weights.{block_short}
-use Rattle.search.specs.Decoding.{sizes_fit}
-use Rattle.search.specs.Work.{Sized}
-use Rattle.search.proofs.Settling.{settles_bad_code, settles_bad_size, settles_search}
-use Rattle.search.proofs.Sizes.{Fit, sizes_fit_out}
+use Rattle.codes.proofs.Machines.{machine_code}
+use Rattle.blocks.specs.Blocks.{trellis_of}
+use Rattle.blocks.specs.Packed.{seen_in}
+use Rattle.blocks.proofs.Parts.{symbols_short, part_length, part_full, part_view}
+use Rattle.search.specs.Work.{trellis_under}
+use Rattle.search.specs.declared.decoder.DecodeError.TheVariants.{BadCode}
+use Rattle.search.proofs.Settling.{settles_search}
+use Rattle.search.proofs.Sizes.{sizes_fit_out}
 use Rattle.search.proofs.decoder.settle.Goals as goal
-
-pub returns-then-not-keeps_rules : goal.returns-then-not-keeps_rules
-returns-then-not-keeps_rules c =
-    settles_bad_code _ _ _ _ _ _ _ _ _ _ (sym c.keeps_rules.ensures ∙ not-true _ c.if-not-keeps_rules.true-raw)
-
-pub returns-then-not-sizes_fit : goal.returns-then-not-sizes_fit
-returns-then-not-sizes_fit c =
-    let code_lawful : lawful c.args.code ≡ true = sym c.keeps_rules.ensures ∙ not-false _ c.if-not-keeps_rules.false-raw in
-    settles_bad_size _ _ _ _ _ _ _ _ code_lawful _ _ (sym c.sizes_fit.ensures ∙ not-true _ c.if-not-sizes_fit.true-raw)
 
 pub see-requires : goal.see-requires
 see-requires c =
-    let code_lawful : lawful c.args.code ≡ true = sym c.keeps_rules.ensures ∙ not-false _ c.if-not-keeps_rules.false-raw in
-    let sizes_true : sizes_fit c.args.code c.args.length (length c.args.symbols.now) c.args.room (length c.args.work.now) c.args.buffer ≡ true = sym c.sizes_fit.ensures ∙ not-false _ c.if-not-sizes_fit.false-raw in
-    let sizes : Fit c.args.code c.args.length (length c.args.symbols.now) c.args.room (length c.args.work.now) c.args.buffer = sizes_fit_out _ _ _ _ _ _ sizes_true in
-    let symbols_fit : length c.args.symbols.now ≤ 864 = omega (arith, sizes.block, block_short c.args.code c.args.length code_lawful sizes.long) in
-    symbols_fit
+    let m = c.in_ok-machine.machine in
+    let fit = sizes_fit_out m.code c.args.length _ c.args.room c.words.result c.args.buffer (sym c.if-not-sizes_fit.ensures) in
+    symbols_short m c.args.length c.args.symbols.now fit.long fit.block
 
 pub slice_bounds-seen-end : goal.slice_bounds-seen-end
 slice_bounds-seen-end c =
-    let code_lawful : lawful c.args.code ≡ true = sym c.keeps_rules.ensures ∙ not-false _ c.if-not-keeps_rules.false-raw in
-    let sizes_true : sizes_fit c.args.code c.args.length (length c.args.symbols.now) c.args.room (length c.args.work.now) c.args.buffer ≡ true = sym c.sizes_fit.ensures ∙ not-false _ c.if-not-sizes_fit.false-raw in
-    let sizes : Fit c.args.code c.args.length (length c.args.symbols.now) c.args.room (length c.args.work.now) c.args.buffer = sizes_fit_out _ _ _ _ _ _ sizes_true in
-    let symbols_fit : length c.args.symbols.now ≤ 864 = omega (arith, sizes.block, block_short c.args.code c.args.length code_lawful sizes.long) in
-    omega (arith, c.see.auto.seen, symbols_fit)
+    let m = c.in_ok-machine.machine in
+    let fit = sizes_fit_out m.code c.args.length _ c.args.room c.words.result c.args.buffer (sym c.if-not-sizes_fit.ensures) in
+    omega (arith, symbols_short m c.args.length c.args.symbols.now fit.long fit.block, c.see.auto.seen)
 
-pub slice_bounds-search-end : goal.slice_bounds-search-end
-slice_bounds-search-end c =
-    let code_lawful : lawful c.args.code ≡ true = sym c.keeps_rules.ensures ∙ not-false _ c.if-not-keeps_rules.false-raw in
-    let sizes_true : sizes_fit c.args.code c.args.length (length c.args.symbols.now) c.args.room (length c.args.work.now) c.args.buffer ≡ true = sym c.sizes_fit.ensures ∙ not-false _ c.if-not-sizes_fit.false-raw in
-    let sizes : Fit c.args.code c.args.length (length c.args.symbols.now) c.args.room (length c.args.work.now) c.args.buffer = sizes_fit_out _ _ _ _ _ _ sizes_true in
-    let symbols_fit : length c.args.symbols.now ≤ 864 = omega (arith, sizes.block, block_short c.args.code c.args.length code_lawful sizes.long) in
-    let symbols : List ℤ = c.args.symbols.now in
-    let part : List ℕ = take (length symbols) c.see.new.seen in
-    let part_packed : part ≡ packed (view symbols) = ap (take (length symbols)) c.see.ensures ∙ see_part symbols _ symbols_fit in
-    let part_length : length part ≡ length symbols = ap length part_packed ∙ length_packed symbols in
-    sym part_length
+pub slice_bounds-new-end : goal.slice_bounds-new-end
+slice_bounds-new-end c =
+    let m = c.in_ok-machine.machine in
+    let fit = sizes_fit_out m.code c.args.length _ c.args.room c.words.result c.args.buffer (sym c.if-not-sizes_fit.ensures) in
+    sym (part_length m c.args.length c.args.symbols.now fit.long fit.block c.see.new.seen _ c.see.ensures (omega arith))
 
-pub search-requires-clause-fact_1 : goal.search-requires-clause-fact_1
-search-requires-clause-fact_1 c =
-    let code_lawful : lawful c.args.code ≡ true = sym c.keeps_rules.ensures ∙ not-false _ c.if-not-keeps_rules.false-raw in
-    let sizes_true : sizes_fit c.args.code c.args.length (length c.args.symbols.now) c.args.room (length c.args.work.now) c.args.buffer ≡ true = sym c.sizes_fit.ensures ∙ not-false _ c.if-not-sizes_fit.false-raw in
-    let sizes : Fit c.args.code c.args.length (length c.args.symbols.now) c.args.room (length c.args.work.now) c.args.buffer = sizes_fit_out _ _ _ _ _ _ sizes_true in
-    let symbols_fit : length c.args.symbols.now ≤ 864 = omega (arith, sizes.block, block_short c.args.code c.args.length code_lawful sizes.long) in
-    let symbols : List ℤ = c.args.symbols.now in
-    let part : List ℕ = take (length symbols) c.see.new.seen in
-    let part_packed : part ≡ packed (view symbols) = ap (take (length symbols)) c.see.ensures ∙ see_part symbols _ symbols_fit in
-    let part_length : length part ≡ length symbols = ap length part_packed ∙ length_packed symbols in
-    let sized : Sized c.args.code c.args.length part = let bounds : Bounds c.args.code = lawful_out c.args.code code_lawful in
-    record {
-      code = code_lawful;
-      long = sizes.long;
-      full = omega (arith, bounds.outputs_most, c.well_formed.0.1.1.1.1.0.1.0.1);
-      block = part_length ∙ sizes.block;
-    } in
-    sized
+pub new-block-requires-clause-full : goal.new-block-requires-clause-full
+new-block-requires-clause-full c =
+    let m = c.in_ok-machine.machine in
+    let fit = sizes_fit_out m.code c.args.length _ c.args.room c.words.result c.args.buffer (sym c.if-not-sizes_fit.ensures) in
+    part_full m c.args.length c.args.symbols.now fit.long fit.block c.see.new.seen _ c.see.ensures (omega arith)
 
 pub returns : goal.returns
 returns c =
-    let code_lawful : lawful c.args.code ≡ true = sym c.keeps_rules.ensures ∙ not-false _ c.if-not-keeps_rules.false-raw in
-    let sizes_true : sizes_fit c.args.code c.args.length (length c.args.symbols.now) c.args.room (length c.args.work.now) c.args.buffer ≡ true = sym c.sizes_fit.ensures ∙ not-false _ c.if-not-sizes_fit.false-raw in
-    let sizes : Fit c.args.code c.args.length (length c.args.symbols.now) c.args.room (length c.args.work.now) c.args.buffer = sizes_fit_out _ _ _ _ _ _ sizes_true in
-    let symbols_fit : length c.args.symbols.now ≤ 864 = omega (arith, sizes.block, block_short c.args.code c.args.length code_lawful sizes.long) in
-    let symbols : List ℤ = c.args.symbols.now in
-    let part : List ℕ = take (length symbols) c.see.new.seen in
-    let part_packed : part ≡ packed (view symbols) = ap (take (length symbols)) c.see.ensures ∙ see_part symbols _ symbols_fit in
-    let part_view : seen_in part ≡ view symbols = ap seen_in part_packed ∙ seen_in_packed symbols in
-    settles_search _ _ _ _ _ _ _ _ code_lawful (seen_in part) part_view _ sizes_true c.search.ensures
+    let m = c.in_ok-machine.machine in
+    let e = machine_code c.args.code c.new.result BadCode c.new.ensures m c.in_ok-machine.ensures.value in
+    let fit = sizes_fit_out m.code c.args.length _ c.args.room c.words.result c.args.buffer (sym c.if-not-sizes_fit.ensures) in
+    let seen_all = part_view m c.args.length c.args.symbols.now fit.long fit.block c.see.new.seen _ c.see.ensures (omega arith) in
+    let b = c.new-block.ensures in
+    settles_search c.args.code c.args.length c.args.symbols.now c.args.room c.args.allowance c.args.nodes.now c.args.buffer _
+    (rw e at m.kept) (sym (rw (e, c.words.ensures) at c.if-not-sizes_fit.ensures)) (trellis_under c.new-block.result)
+    ((λ z. trellis_of (b.machine z).code (b.bits z) (seen_in (b.seen z))) ∙ (λ z. trellis_of (e z) c.args.length (seen_all z))) _ c.search.ensures

@@ -1,121 +1,132 @@
 -- `run::run` meets its contract: running on from the rows as they are finishes the search (the record Running). Assumes nothing.
 use mathlib.Core.Path.{◌≡◌, refl, sym, ap, ◌∙◌, subst}
 use mathlib.Core.List.{List}
-use Prim.Native.Nat.{ℕ, ◌≤◌, ◌<◌}
+use mathlib.Core.Bool.{Bool, true, false}
+use Prim.Native.Nat.{ℕ, ◌≤◌}
 use native.Mathlib.Omega.{arith}
 use lib.Dec.{T}
 use lib.ListN.{length}
-use Rattle.trellis.specs.Trellis.{Trellis, same, terminal}
+use Rattle.std.specs.Prelude.{Option, Some, is_ok, is_err, Result, Ok, Err}
+use Rattle.std.proofs.Common.{rules}
+use Rattle.std.proofs.lemmas.Result.{err_from_is_err_and}
+use Rattle.trellis.specs.Trellis.{Trellis, node, same, top, terminal}
 use Rattle.trellis.specs.Lawful.{Lawful}
-use Rattle.trellis.specs.Search.{Row, row_at, node_at, first_open, Ended, found, arrived, expand}
+use Rattle.trellis.specs.Search.{Row, row_at, node_at, first_open, started, Ended, found, arrived, expand}
 use Rattle.trellis.proofs.Run.{Arrived, after}
-use Rattle.store.specs.Memory.{row_of, rows_of, Shows}
-use Rattle.store.proofs.Rows.{length_rows_of, none_shows}
 use Rattle.blocks.specs.Packed.{seen_in}
 use Rattle.blocks.proofs.Closing.{trellis_lawful}
-use Rattle.search.specs.Work.{cap, trellis_in, outcome_of, Tries, Halts}
-use Rattle.search.specs.declared.run.Halt.{Halt}
+use Rattle.store.specs.Memory.{Shown, showing, found_at}
+use Rattle.store.proofs.Found.{found_within, found_some}
+use Rattle.search.specs.Work.{cap, trellis_under, answer_of, Tries, Halts}
+use Rattle.blocks.specs.declared.branches.Block.{Block}
+use Rattle.search.specs.declared.decoder.DecodeError.{DecodeError}
+use Rattle.search.specs.declared.decoder.DecodeError.TheVariants.{NoRoom}
+use Rattle.search.specs.declared.run.Terminal.{Terminal}
+use Rattle.search.specs.declared.step.Full.{Full}
 use Rattle.search.proofs.Fits.{lent_on, tries_roomy}
-use Rattle.search.proofs.Runs.{searched_none, running_cast, running_start, running_open}
+use Rattle.search.proofs.Runs.{running_cast, running_start, running_open}
 use Rattle.search.proofs.Runs.{running_found, running_spent, running_full, running_next}
 use Rattle.search.proofs.run.run.Goals as goal
 
--- how the search ended is what the memory shows
-halts : {first mid work : List ℕ} {room : ℕ} {h : Halt} {e : Ended} → length mid ≡ length first → Shows mid work h.rows e.rows → h.rows ≤ room
-    → outcome_of h.reached ≡ e.outcome → {whole : Ended} → whole ≡ e → Halts first work room h whole
-halts {first} {mid} {work} {room} {h} {e} k s m o w =
-    subst (Halts first work room h) (sym w) (record { shows = record { stored = s.stored; rows = s.rows; kept = s.kept ∙ k }; most = m; outcome = o })
+-- how the search ended is what the memory shows and the run answers
+halts : (mid : Shown) {first nodes : Shown} {room : ℕ} {r : Result Terminal DecodeError} {e : Ended} → mid.words ≡ first.words → nodes ≡ showing mid e.rows
+    → length e.rows ≤ room → r ≡ answer_of e.outcome → {whole : Ended} → whole ≡ e → Halts first nodes room r whole
+halts mid {first} {nodes} {room} {r} {e} k s m o w =
+    subst (Halts first nodes room r) (sym w)
+    (record { shows = s ∙ ap (λ (n : ℕ). record { words = n; rows = e.rows }) k; most = m; answer = o })
 
-pub returns-then-room-eq0 : goal.returns-then-room-eq0
-returns-then-room-eq0 c =
-    let trellis : Trellis = trellis_in c.args.code c.args.bits c.args.seen.now in
-    halts {mid = c.args.work.now} refl (none_shows c.args.work.now) (omega arith) refl
-    (searched_none trellis cap c.args.room c.args.allowance c.if-room-eq0.true)
+-- the trellis of a block is lawful
+law : (b : Block) → Lawful (trellis_under b)
+law b = trellis_lawful b.machine.code b.bits (seen_in b.seen.now)
 
-pub loop-code-init : goal.loop-code-init
-loop-code-init c =
-    let trellis : Trellis = trellis_in c.args.code c.args.bits c.args.seen.now in
-    let law : Lawful trellis = trellis_lawful c.args.code c.args.bits (seen_in c.args.seen.now) in
-    let h = c.start.ensures in
-    let some : 0 < c.args.room = omega (arith, c.if-room-eq0.false) in
+-- the first open row as it was found and read, and the test of it
+record Turn (t : Trellis) (rows : List Row) (i : ℕ) (row : Row) (b : Bool) : Type 0 where
+  place : first_open rows ≡ i
+  read : row ≡ row_at rows (first_open rows)
+  asked : b ≡ same (node_at rows (first_open rows)) (terminal t)
+
+turn : (t : Trellis) (rows : List Row) {o : Option ℕ} {i : ℕ} {row : Row} {b : Bool} → o ≡ found_at rows (first_open rows) → o ≡ Some i
+    → row ≡ row_at rows i → {last : ℕ} → last ≡ top t → b ≡ same row.entry.node (node last 0) → Turn t rows i row b
+turn t rows e s read {last} l asked =
+    let place = (found_some rows (first_open rows) (sym e ∙ s)).0 in
+    let at : _ ≡ row_at rows (first_open rows) = read ∙ ap (row_at rows) (sym place) in
+    record { place = place; read = at; asked = asked ∙ (λ z. same (at z).entry.node (node (l z) 0)) }
+
+-- it is not the terminal's
+off : {t : Trellis} {rows : List Row} {i : ℕ} {row : Row} {b : Bool} → Turn t rows i row b → b ≡ false → Arrived t rows → ⊥
+off u e h = subst T (sym u.asked ∙ e) h
+
+-- an expansion that answered nothing had no room
+failed : (r : Result (Unit {0}) Full) → false ≡ is_ok r → is_err r ≡ true
+failed (Ok x) h = absurd (cc)
+failed (Err e) h = refl
+
+-- and any other had
+passed : (r : Result (Unit {0}) Full) → true ≡ is_ok r → is_err r ≡ false
+passed (Ok x) h = refl
+passed (Err e) h = absurd (cc)
+
+pub loop-first-init : goal.loop-first-init
+loop-first-init c =
+    let rows : c.start.new.self.rows ≡ started = ap (λ (s : Shown). s.rows) c.start.ensures in
     record {
-      roomy = record { stored = h.stored; most = some; lent = lent_on h.kept c.requires.fact_2 };
+      roomy = record { most = rw rows c.requires.some; lent = lent_on (ap (λ (s : Shown). s.words) c.start.ensures) c.requires.lent };
       kept = refl;
-      running = running_cast h.rows (running_start c.args.room c.args.allowance law (omega arith) some);
+      running = running_cast rows (running_start c.args.room c.args.allowance (law c.args.block.now) (omega arith) c.requires.some);
     }
 
-pub row-first-requires-clause-fact_2 : goal.row-first-requires-clause-fact_2
-row-first-requires-clause-fact_2 c =
-    let trellis : Trellis = trellis_in c.args.code c.args.bits c.args.seen.now in
-    let law : Lawful trellis = trellis_lawful c.args.code c.args.bits (seen_in c.args.seen.now) in
-    let open_row : c.first_open-i.result < c.loop-code.rows = omega (arith, c.first_open-i.ensures, running_open law c.loop-code.invariant.running, length_rows_of c.loop-code.work c.loop-code.rows) in
-    open_row
+pub unwrap-i-requires : goal.unwrap-i-requires
+unwrap-i-requires c =
+    let rows : List Row = c.loop-first.nodes.rows in
+    rw (c.first_open.ensures, found_within rows (first_open rows) (running_open (law c.args.block.now) c.loop-first.invariant.running))
 
 pub returns-then-is_terminal : goal.returns-then-is_terminal
 returns-then-is_terminal c =
-    let trellis : Trellis = trellis_in c.args.code c.args.bits c.args.seen.now in
-    let law : Lawful trellis = trellis_lawful c.args.code c.args.bits (seen_in c.args.seen.now) in
-    let rows : List Row = rows_of c.loop-code.work c.loop-code.rows in
-    let kept : length c.loop-code.work ≡ length c.args.work.now = c.loop-code.invariant.kept ∙ c.start.ensures.kept in
-    let row_read : row_of c.row-first.result ≡ row_at rows (first_open rows) = c.row-first.ensures.0 ∙ ap (row_at rows) c.first_open-i.ensures in
-    let asked : c.is_terminal.result ≡ same (node_at rows (first_open rows)) (terminal trellis) = c.is_terminal.ensures ∙ ap (λ (r : Row). same r.entry.node (terminal trellis)) row_read in
-    let unchanged : Shows c.loop-code.work c.loop-code.work c.loop-code.rows rows = record { stored = c.loop-code.invariant.roomy.stored; rows = refl; kept = refl } in
-    halts {mid = c.loop-code.work} {e = arrived rows (first_open rows) c.loop-code.steps} kept unchanged c.loop-code.invariant.roomy.most
-    (λ z. found (row_read z).entry.cost c.loop-code.steps (row_read z).count (c.first_open-i.ensures z))
-    (running_found law c.loop-code.invariant.running (subst T (sym (sym asked ∙ c.if-is_terminal.true)) tt))
+    let t : Trellis = trellis_under c.args.block.now in
+    let rows : List Row = c.loop-first.nodes.rows in
+    let g = c.loop-first.invariant in
+    let u = turn t rows c.first_open.ensures c.unwrap-i.ensures c.row-first.ensures.row c.top-last.ensures c.is_terminal.ensures in
+    halts c.loop-first.nodes {e = arrived rows (first_open rows) c.loop-first.steps} (g.kept ∙ ap (λ (s : Shown). s.words) c.start.ensures) refl g.roomy.most
+    (λ z. answer_of (found (u.read z).entry.cost c.loop-first.steps (u.read z).count (sym u.place z)))
+    (running_found (law c.args.block.now) g.running (subst T (sym (sym u.asked ∙ c.if-is_terminal.true)) tt))
 
 pub returns-then-steps-allowance : goal.returns-then-steps-allowance
 returns-then-steps-allowance c =
-    let trellis : Trellis = trellis_in c.args.code c.args.bits c.args.seen.now in
-    let law : Lawful trellis = trellis_lawful c.args.code c.args.bits (seen_in c.args.seen.now) in
-    let rows : List Row = rows_of c.loop-code.work c.loop-code.rows in
-    let kept : length c.loop-code.work ≡ length c.args.work.now = c.loop-code.invariant.kept ∙ c.start.ensures.kept in
-    let row_read : row_of c.row-first.result ≡ row_at rows (first_open rows) = c.row-first.ensures.0 ∙ ap (row_at rows) c.first_open-i.ensures in
-    let asked : c.is_terminal.result ≡ same (node_at rows (first_open rows)) (terminal trellis) = c.is_terminal.ensures ∙ ap (λ (r : Row). same r.entry.node (terminal trellis)) row_read in
-    let off : Arrived trellis rows → ⊥ = λ h. subst T (sym asked ∙ c.if-is_terminal.false) h in
-    let unchanged : Shows c.loop-code.work c.loop-code.work c.loop-code.rows rows = record { stored = c.loop-code.invariant.roomy.stored; rows = refl; kept = refl } in
-    halts {mid = c.loop-code.work} kept unchanged c.loop-code.invariant.roomy.most refl
-    (running_spent law c.loop-code.invariant.running off c.if-steps-allowance.true)
+    let t : Trellis = trellis_under c.args.block.now in
+    let rows : List Row = c.loop-first.nodes.rows in
+    let g = c.loop-first.invariant in
+    let u = turn t rows c.first_open.ensures c.unwrap-i.ensures c.row-first.ensures.row c.top-last.ensures c.is_terminal.ensures in
+    halts c.loop-first.nodes (g.kept ∙ ap (λ (s : Shown). s.words) c.start.ensures) refl g.roomy.most refl
+    (running_spent (law c.args.block.now) g.running (off u c.if-is_terminal.false) c.if-steps-allowance.true)
 
-pub expand-tally-requires-clause-fact_1 : goal.expand-tally-requires-clause-fact_1
-expand-tally-requires-clause-fact_1 c =
-    let trellis : Trellis = trellis_in c.args.code c.args.bits c.args.seen.now in
-    let law : Lawful trellis = trellis_lawful c.args.code c.args.bits (seen_in c.args.seen.now) in
-    let open_row : c.first_open-i.result < c.loop-code.rows = omega (arith, c.first_open-i.ensures, running_open law c.loop-code.invariant.running, length_rows_of c.loop-code.work c.loop-code.rows) in
-    record { searchable = c.requires.fact_1; roomy = c.loop-code.invariant.roomy; within = open_row; safe = c.loop-code.invariant.running.safe }
+pub returns-in_err-map_err : goal.returns-in_err-map_err
+returns-in_err-map_err c =
+    let t : Trellis = trellis_under c.args.block.now in
+    let rows : List Row = c.loop-first.nodes.rows in
+    let g = c.loop-first.invariant in
+    let u = turn t rows c.first_open.ensures c.unwrap-i.ensures c.row-first.ensures.row c.top-last.ensures c.is_terminal.ensures in
+    let tried : Tries c.loop-first.nodes c.expand.new.nodes c.args.room c.expand.result (after t cap c.args.room rows) =
+    subst (λ (i : ℕ). Tries c.loop-first.nodes c.expand.new.nodes c.args.room c.expand.result (expand t cap c.args.room i rows)) (sym u.place) c.expand.ensures in
+    let refusal : c.in_err-map_err.field-0.0 ≡ NoRoom c.loop-first.steps = search rules in
+    let p = err_from_is_err_and c.from_residual.result c.from_residual.ensures.1 in
+    rw (p.1, p.2, refusal)
+    (halts c.loop-first.nodes (g.kept ∙ ap (λ (s : Shown). s.words) c.start.ensures) tried.shows tried.most refl
+    (running_full (law c.args.block.now) g.running (off u c.if-is_terminal.false) c.if-steps-allowance.false
+    (sym tried.full ∙ failed c.expand.result c.in_err-map_err.ensures.variant)))
 
-pub returns-then-tally : goal.returns-then-tally
-returns-then-tally c =
-    let trellis : Trellis = trellis_in c.args.code c.args.bits c.args.seen.now in
-    let law : Lawful trellis = trellis_lawful c.args.code c.args.bits (seen_in c.args.seen.now) in
-    let rows : List Row = rows_of c.loop-code.work c.loop-code.rows in
-    let kept : length c.loop-code.work ≡ length c.args.work.now = c.loop-code.invariant.kept ∙ c.start.ensures.kept in
-    let row_read : row_of c.row-first.result ≡ row_at rows (first_open rows) = c.row-first.ensures.0 ∙ ap (row_at rows) c.first_open-i.ensures in
-    let asked : c.is_terminal.result ≡ same (node_at rows (first_open rows)) (terminal trellis) = c.is_terminal.ensures ∙ ap (λ (r : Row). same r.entry.node (terminal trellis)) row_read in
-    let off : Arrived trellis rows → ⊥ = λ h. subst T (sym asked ∙ c.if-is_terminal.false) h in
-    let tried : Tries c.loop-code.work c.expand-tally.new.work c.args.room c.expand-tally.result (after trellis cap c.args.room rows) = subst (λ (i : ℕ). Tries c.loop-code.work c.expand-tally.new.work c.args.room c.expand-tally.result
-    (expand trellis cap c.args.room i rows))
-    c.first_open-i.ensures c.expand-tally.ensures in
-    let t = tried in
-    halts {mid = c.loop-code.work} kept t.shows t.most refl
-    (running_full law c.loop-code.invariant.running off c.if-steps-allowance.false (sym t.full ∙ c.if-tally.true))
-
-pub loop-code-preserved : goal.loop-code-preserved
-loop-code-preserved c =
-    let trellis : Trellis = trellis_in c.args.code c.args.bits c.args.seen.now in
-    let law : Lawful trellis = trellis_lawful c.args.code c.args.bits (seen_in c.args.seen.now) in
-    let rows : List Row = rows_of c.loop-code.work c.loop-code.rows in
-    let row_read : row_of c.row-first.result ≡ row_at rows (first_open rows) = c.row-first.ensures.0 ∙ ap (row_at rows) c.first_open-i.ensures in
-    let asked : c.is_terminal.result ≡ same (node_at rows (first_open rows)) (terminal trellis) = c.is_terminal.ensures ∙ ap (λ (r : Row). same r.entry.node (terminal trellis)) row_read in
-    let off : Arrived trellis rows → ⊥ = λ h. subst T (sym asked ∙ c.if-is_terminal.false) h in
-    let tried : Tries c.loop-code.work c.expand-tally.new.work c.args.room c.expand-tally.result (after trellis cap c.args.room rows) = subst (λ (i : ℕ). Tries c.loop-code.work c.expand-tally.new.work c.args.room c.expand-tally.result
-    (expand trellis cap c.args.room i rows))
-    c.first_open-i.ensures c.expand-tally.ensures in
-    let t = tried in
+pub loop-first-preserved : goal.loop-first-preserved
+loop-first-preserved c =
+    let t : Trellis = trellis_under c.args.block.now in
+    let rows : List Row = c.loop-first.nodes.rows in
+    let g = c.loop-first.invariant in
+    let u = turn t rows c.first_open.ensures c.unwrap-i.ensures c.row-first.ensures.row c.top-last.ensures c.is_terminal.ensures in
+    let tried : Tries c.loop-first.nodes c.expand.new.nodes c.args.room c.expand.result (after t cap c.args.room rows) =
+    subst (λ (i : ℕ). Tries c.loop-first.nodes c.expand.new.nodes c.args.room c.expand.result (expand t cap c.args.room i rows)) (sym u.place) c.expand.ensures in
     record {
-      roomy = tries_roomy t c.loop-code.invariant.roomy.lent;
-      kept = t.shows.kept ∙ c.loop-code.invariant.kept;
+      roomy = tries_roomy tried g.roomy.lent;
+      kept = ap (λ (s : Shown). s.words) tried.shows ∙ g.kept;
       running =
-          running_cast t.shows.rows
-          (running_next law c.loop-code.invariant.running off c.if-steps-allowance.false (sym t.full ∙ c.if-tally.false));
+          running_cast (ap (λ (s : Shown). s.rows) tried.shows)
+          (running_next (law c.args.block.now) g.running (off u c.if-is_terminal.false) c.if-steps-allowance.false
+          (sym tried.full ∙ passed c.expand.result c.in_ok-map_err.ensures.variant));
     }

@@ -1,88 +1,87 @@
 -- `step::expand` meets its contract: the row is closed, and going on from the rows as they are finishes its fan. Assumes nothing.
 use mathlib.Core.Path.{◌≡◌, refl, sym, ap, ◌∙◌, subst}
 use mathlib.Core.List.{List}
-use Prim.Native.Nat.{ℕ, ◌<◌}
+use Prim.Native.Nat.{ℕ}
 use native.Mathlib.Omega.{arith}
-use lib.ListN.{length}
+use lib.ListN.{length-set}
+use Rattle.std.specs.Prelude.{Result}
+use Rattle.std.proofs.lemmas.Result.{err_from_is_err_and}
 use Rattle.trellis.specs.Trellis.{Trellis, allowed}
 use Rattle.trellis.specs.Search.{Row, row_at, node_at, Tried, shut, closed, fan, expand}
 use Rattle.trellis.proofs.Rows.{set_changed}
 use Rattle.trellis.proofs.Safe.{safe_closed}
-use Rattle.store.specs.Memory.{rows_of}
-use Rattle.store.proofs.Rows.{length_rows_of}
-use Rattle.blocks.specs.Packed.{seen_in}
-use Rattle.search.specs.Work.{cap, trellis_in, Tries}
-use Rattle.search.specs.declared.step.Tally.{Tally}
-use Rattle.search.proofs.Fits.{lent_on, tries_roomy}
+use Rattle.store.specs.Memory.{Shown}
+use Rattle.search.specs.Work.{cap, trellis_under, Tries}
+use Rattle.search.specs.declared.step.Full.{Full}
+use Rattle.search.proofs.Fits.{lent_on, tries_roomy, tries_from}
 use Rattle.search.proofs.Fans.{Fanning, fanning_cast, fanning_start, fanning_full, fanning_next, fanning_done}
+use Rattle.blocks.specs.Packed.{seen_in}
 use Rattle.search.proofs.step.expand.Goals as goal
 
--- a try over the rows as they are is a try of the whole
-based : {first mid work : List ℕ} {room : ℕ} {r : Tally} {p q : Tried} → length mid ≡ length first → q ≡ p → Tries mid work room r p → Tries first work room r q
-based {first} {mid} {work} {room} {r} {p} e d t =
-    subst (Tries first work room r) (sym d)
-    (record { shows = record { stored = t.shows.stored; rows = t.shows.rows; kept = t.shows.kept ∙ e }; most = t.most; full = t.full })
+-- a try that finishes the fan over the closed row's memory is a try of the whole
+based : (t : Trellis) {first mid nodes : Shown} {room : ℕ} (i inputs : ℕ) {r : Result (Unit {0}) Full} {p : Tried}
+    → inputs ≡ allowed t (node_at first.rows i).level → {rows : List Row} → rows ≡ closed first.rows i → fan t cap room i inputs 0 rows ≡ p
+    → mid.words ≡ first.words → Tries mid nodes room r p → Tries first nodes room r (expand t cap room i first.rows)
+unfolding expand
+based t {first} {mid} {nodes} {room} i inputs {r} allows same finished kept tried =
+    subst (Tries first nodes room r) (sym finished ∙ (λ z. fan t cap room i (allows z) 0 (same z))) (tries_from kept tried)
 
 pub loop-input-init : goal.loop-input-init
 loop-input-init c =
-    let trellis : Trellis = trellis_in c.args.code c.args.bits c.args.seen.now in
-    let opening : List Row = rows_of c.args.work.now c.args.n in
-    let inside : c.args.i < length opening = omega (arith, length_rows_of c.args.work.now c.args.n, c.requires.fact_1.within) in
-    let allows : c.allowed-inputs.result ≡ allowed trellis (node_at opening c.args.i).level = c.allowed-inputs.ensures (seen_in c.args.seen.now)
-    ∙ ap (λ (r : Row). allowed trellis r.entry.node.level) c.row-from.ensures.0 in
-    let h = c.close.ensures in
-    let C = set_changed opening c.args.i (shut (row_at opening c.args.i)) inside in
-    let open_allows : c.allowed-inputs.result ≡ allowed trellis (node_at (closed opening c.args.i) c.args.i).level =
-    allows ∙ ap (λ (r : Row). allowed trellis r.entry.node.level) (sym C.here) in
+    let t : Trellis = trellis_under c.args.block.now in
+    let rows : List Row = c.args.nodes.now.rows in
+    let closed_rows : c.close.new.self.rows ≡ closed rows c.args.i = ap (λ (s : Shown). s.rows) c.close.ensures in
+    let kept : c.close.new.self.words ≡ c.args.nodes.now.words = ap (λ (s : Shown). s.words) c.close.ensures in
+    let C = set_changed rows c.args.i (shut (row_at rows c.args.i)) c.requires.steppable.within in
+    let allows : c.allowed-inputs.result ≡ allowed t (node_at (closed rows c.args.i) c.args.i).level =
+    c.allowed-inputs.ensures (seen_in c.args.block.now.seen.now) ∙ ap (λ (r : Row). allowed t r.entry.node.level) c.row-from.ensures.row
+    ∙ ap (λ (r : Row). allowed t r.entry.node.level) (sym C.here) in
     record {
-      roomy = record { stored = h.stored; most = c.requires.fact_1.roomy.most; lent = lent_on h.kept c.requires.fact_1.roomy.lent };
+      roomy = record {
+        most = rw closed_rows (omega (arith, length-set rows c.args.i (shut (row_at rows c.args.i)), c.requires.steppable.roomy.most));
+        lent = lent_on kept c.requires.steppable.roomy.lent;
+      };
       kept = refl;
       fanning =
-          subst (λ (l : List Row). Fanning trellis cap c.args.room c.args.i c.allowed-inputs.result l l 0) (sym h.rows)
-          (fanning_start (safe_closed (omega arith) c.requires.fact_1.safe inside) C.within open_allows);
+          subst (λ (l : List Row). Fanning t cap c.args.room c.args.i c.allowed-inputs.result l l 0) (sym closed_rows)
+          (fanning_start (safe_closed (omega arith) c.requires.steppable.safe c.requires.steppable.within) C.within allows);
     }
 
-pub relax-tally-requires-clause-steppable : goal.relax-tally-requires-clause-steppable
-relax-tally-requires-clause-steppable c =
-    let f = c.loop-input.invariant.fanning in record {
-      searchable = c.requires.fact_1.searchable;
-      roomy = c.loop-input.invariant.roomy;
-      within = omega (arith, f.there, length_rows_of c.loop-input.work c.loop-input.rows);
-      safe = f.safe;
-    }
+pub relax-requires-clause-steppable : goal.relax-requires-clause-steppable
+relax-requires-clause-steppable c = let f = c.loop-input.invariant.fanning in record { roomy = c.loop-input.invariant.roomy; within = f.there; safe = f.safe }
 
-pub returns-then-tally : goal.returns-then-tally
-unfolding expand
-returns-then-tally c =
-    let trellis : Trellis = trellis_in c.args.code c.args.bits c.args.seen.now in
-    let opening : List Row = rows_of c.args.work.now c.args.n in
-    let allows : c.allowed-inputs.result ≡ allowed trellis (node_at opening c.args.i).level = c.allowed-inputs.ensures (seen_in c.args.seen.now)
-    ∙ ap (λ (r : Row). allowed trellis r.entry.node.level) c.row-from.ensures.0 in
-    let whole : (work : List ℕ) → rows_of work c.args.n ≡ closed opening c.args.i → expand trellis cap c.args.room c.args.i opening ≡ fan trellis cap c.args.room c.args.i c.allowed-inputs.result 0 (rows_of work c.args.n) = λ work e. λ z. fan trellis cap c.args.room c.args.i (sym allows z) 0 (sym e z) in
-    let kept : length c.loop-input.work ≡ length c.args.work.now = c.loop-input.invariant.kept ∙ c.close.ensures.kept in
-    let full = fanning_full c.loop-input.invariant.fanning c.loop-input-test.true (sym c.relax-tally.ensures.full ∙ c.if-tally.true) in
-    based kept (whole _ c.close.ensures.rows ∙ full) c.relax-tally.ensures
+pub relax-requires-clause-input_bound : goal.relax-requires-clause-input_bound
+relax-requires-clause-input_bound c = omega (arith, c.loop-input.invariant.fanning.allows)
+
+pub returns-in_err-relax : goal.returns-in_err-relax
+returns-in_err-relax c =
+    let t : Trellis = trellis_under c.args.block.now in
+    let allows : c.allowed-inputs.result ≡ allowed t (node_at c.args.nodes.now.rows c.args.i).level =
+    c.allowed-inputs.ensures (seen_in c.args.block.now.seen.now) ∙ ap (λ (r : Row). allowed t r.entry.node.level) c.row-from.ensures.row in
+    let g = c.loop-input.invariant in
+    let tried = c.in_err-relax.ensures in
+    let p = err_from_is_err_and c.from_residual.result c.from_residual.ensures.1 in
+    rw (p.1, p.2)
+    (based t {mid = c.loop-input.nodes} c.args.i c.allowed-inputs.result allows (ap (λ (s : Shown). s.rows) c.close.ensures)
+    (fanning_full g.fanning c.loop-input-test.true (sym tried.full))
+    (g.kept ∙ ap (λ (s : Shown). s.words) c.close.ensures) tried)
 
 pub loop-input-preserved : goal.loop-input-preserved
 loop-input-preserved c =
-    let t = c.relax-tally.ensures in
+    let g = c.loop-input.invariant in
+    let tried = c.in_ok-relax.ensures in
     record {
-      roomy = tries_roomy t c.loop-input.invariant.roomy.lent;
-      kept = t.shows.kept ∙ c.loop-input.invariant.kept;
-      fanning =
-          fanning_cast t.shows.rows
-          (fanning_next c.loop-input.invariant.fanning c.loop-input-test.true (omega arith) (sym t.full ∙ c.if-tally.false));
+      roomy = tries_roomy tried g.roomy.lent;
+      kept = ap (λ (s : Shown). s.words) tried.shows ∙ g.kept;
+      fanning = fanning_cast (ap (λ (s : Shown). s.rows) tried.shows) (fanning_next g.fanning c.loop-input-test.true (omega arith) (sym tried.full));
     }
 
 pub returns : goal.returns
-unfolding expand
 returns c =
-    let trellis : Trellis = trellis_in c.args.code c.args.bits c.args.seen.now in
-    let opening : List Row = rows_of c.args.work.now c.args.n in
-    let allows : c.allowed-inputs.result ≡ allowed trellis (node_at opening c.args.i).level = c.allowed-inputs.ensures (seen_in c.args.seen.now)
-    ∙ ap (λ (r : Row). allowed trellis r.entry.node.level) c.row-from.ensures.0 in
-    let whole : (work : List ℕ) → rows_of work c.args.n ≡ closed opening c.args.i → expand trellis cap c.args.room c.args.i opening ≡ fan trellis cap c.args.room c.args.i c.allowed-inputs.result 0 (rows_of work c.args.n) = λ work e. λ z. fan trellis cap c.args.room c.args.i (sym allows z) 0 (sym e z) in
-    let kept : length c.loop-input.work ≡ length c.args.work.now = c.loop-input.invariant.kept ∙ c.close.ensures.kept in
-    let r = c.loop-input.invariant.roomy in
-    based {mid = c.loop-input.work} kept (whole _ c.close.ensures.rows ∙ fanning_done c.loop-input.invariant.fanning c.loop-input-test.false)
-    (record { shows = record { stored = r.stored; rows = refl; kept = refl }; most = r.most; full = refl })
+    let t : Trellis = trellis_under c.args.block.now in
+    let allows : c.allowed-inputs.result ≡ allowed t (node_at c.args.nodes.now.rows c.args.i).level =
+    c.allowed-inputs.ensures (seen_in c.args.block.now.seen.now) ∙ ap (λ (r : Row). allowed t r.entry.node.level) c.row-from.ensures.row in
+    let g = c.loop-input.invariant in
+    based t {mid = c.loop-input.nodes} c.args.i c.allowed-inputs.result allows (ap (λ (s : Shown). s.rows) c.close.ensures) (fanning_done g.fanning c.loop-input-test.false)
+    (g.kept ∙ ap (λ (s : Shown). s.words) c.close.ensures)
+    (record { shows = refl; most = g.roomy.most; full = refl })

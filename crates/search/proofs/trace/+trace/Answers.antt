@@ -4,8 +4,7 @@ use mathlib.Core.List.{List}
 use Prim.Native.Nat.{◌<◌}
 use native.Mathlib.Omega.{arith}
 use Rattle.trellis.specs.Search.{Row}
-use Rattle.store.specs.Memory.{row_of, rows_of}
-use Rattle.store.proofs.Rows.{length_rows_of}
+use Rattle.store.specs.Memory.{row_of}
 use Rattle.search.proofs.Tracing.{front_origin, Put, put_tail, put_message, traceable_here, traceable_next}
 use Rattle.search.proofs.trace.+trace.Goals as goal
 use Rattle.search.proofs.trace.+trace.Goals.{then-below-bits, else-below-bits}
@@ -13,37 +12,37 @@ use Rattle.search.proofs.trace.+trace.Goals.{then-below-bits, else-below-bits}
 pub returns-then-level-eq0 : goal.returns-then-level-eq0
 returns-then-level-eq0 t c =
     let s = c.args in
-    front_origin (rows_of s.work.now s.n) s.level s.i s.bits s.message.now c.if-level-eq0.true
+    front_origin s.nodes.now.rows s.level s.i s.bits s.message.now c.if-level-eq0.true
 
-pub row-here-requires-clause-fact_2 : goal.row-here-requires-clause-fact_2
-row-here-requires-clause-fact_2 t c =
+pub row-here-requires : goal.row-here-requires
+row-here-requires t c =
     let s = c.args in
-    let rows : List Row = rows_of s.work.now s.n in
-    omega (arith, length_rows_of s.work.now s.n, traceable_here rows s.level s.i (omega arith) c.requires.1.0)
+    let rows : List Row = s.nodes.now.rows in
+    traceable_here rows s.level s.i (omega arith) c.requires.traceable
 
 pub trace-requires : goal.trace-requires
 trace-requires t c =
     let s = c.args in
-    let rows : List Row = rows_of s.work.now s.n in
+    let rows : List Row = s.nodes.now.rows in
     let above : 0 < s.level = omega arith in
-    let r = c.row-here.ensures.0 in
+    let r = c.row-here.ensures.row in
     let put : Put rows s.level s.i s.bits (row_of c.row-here.result) s.message.now c.if-below-bits.message =
     elim c.if-below-bits.branch [
-      | then-below-bits w ↦ put_message rows s.level s.i s.bits r above w.if-below-bits.true c.requires.1.1 w.message-is
+      | then-below-bits w ↦ put_message rows s.level s.i s.bits r above w.if-below-bits.true c.requires.buffer w.message-is
       | else-below-bits w ↦ put_tail rows s.level s.i s.bits r above w.if-below-bits.false w.message-is
     ] in
-    let next = traceable_next rows s.level s.i r (omega arith) c.requires.1.0 in
-    (omega arith, (c.requires.0, (next, omega (arith, put.kept))))
+    let next = traceable_next rows s.level s.i r (omega arith) c.requires.traceable in
+    (omega arith, (next, omega (arith, put.kept)))
 
 pub returns : goal.returns
 returns t c =
     let s = c.args in
-    let rows : List Row = rows_of s.work.now s.n in
+    let rows : List Row = s.nodes.now.rows in
     let above : 0 < s.level = omega arith in
-    let r = c.row-here.ensures.0 in
+    let r = c.row-here.ensures.row in
     let put : Put rows s.level s.i s.bits (row_of c.row-here.result) s.message.now c.if-below-bits.message =
     elim c.if-below-bits.branch [
-      | then-below-bits w ↦ put_message rows s.level s.i s.bits r above w.if-below-bits.true c.requires.1.1 w.message-is
+      | then-below-bits w ↦ put_message rows s.level s.i s.bits r above w.if-below-bits.true c.requires.buffer w.message-is
       | else-below-bits w ↦ put_tail rows s.level s.i s.bits r above w.if-below-bits.false w.message-is
     ] in
     c.trace.ensures ∙ put.rest

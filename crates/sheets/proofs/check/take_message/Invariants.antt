@@ -2,7 +2,7 @@
 -- Assumes nothing.
 use mathlib.Core.Path.{◌≡◌}
 use mathlib.Core.List.{List}
-use Prim.Native.Nat.{ℕ, ◌-◌}
+use Prim.Native.Nat.{ℕ}
 use lib.ListN.{length, drop}
 use lib.Seq.{sets}
 use Rattle.sheets.specs.Bytes.{sheet_read}
@@ -15,6 +15,3 @@ pub record Taking (bits first message : List ℕ) (i : ℕ) : Type 0 where
 
 abbrev pub invariant-loop-i : goal.invariant-loop-i
 invariant-loop-i l = Taking (sheet_read l.length l.sheet).message l.initial.message l.message l.i
-
-abbrev pub decreases-loop-i : goal.decreases-loop-i
-decreases-loop-i l = l.length - l.i

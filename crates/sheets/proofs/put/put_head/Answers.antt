@@ -6,6 +6,7 @@ use lib.Seq.{sets}
 use Rattle.lists.proofs.Writing.{sets_append}
 use Rattle.sheets.specs.Bytes.{bytes_of, kind}
 use Rattle.sheets.specs.Steps.{sheet_size, head_bytes}
+use Rattle.sheets.proofs.Numbers.{two_put, four_put}
 use Rattle.sheets.proofs.put.put_head.Goals as goal
 
 pub returns : goal.returns
@@ -17,14 +18,15 @@ returns c =
     let span : List ℕ = bytes_of 2 c.args.length in
     let metric : List ℕ = bytes_of 4 c.args.metric in
     let count : List ℕ = bytes_of 2 c.args.count in
-    c.put_two_bytes-3.ensures
+    two_put _ _ _ c.to_le_bytes-5.ensures c.put_bytes-5.ensures
     ∙ ap (λ (l : List ℕ). sets l 12 count)
-    (c.put_four_bytes-2.ensures
+    (four_put _ _ _ c.to_le_bytes-4.ensures c.put_bytes-4.ensures
     ∙ ap (λ (l : List ℕ). sets l 8 metric)
-    (c.put_two_bytes-2.ensures
+    (two_put _ _ _ c.to_le_bytes-3.ensures c.put_bytes-3.ensures
     ∙ ap (λ (l : List ℕ). sets l 6 span)
-    (c.put_two_bytes.ensures ∙ ap (λ (l : List ℕ). sets l 4 sort)
-    (c.put_four_bytes.ensures ∙ ap (λ (k : ℕ). sets out 0 (bytes_of 4 (k - 4))) c.sheet_size-size.ensures))
+    (two_put kind _ _ c.to_le_bytes-2.ensures c.put_bytes-2.ensures
+    ∙ ap (λ (l : List ℕ). sets l 4 sort)
+    (four_put _ _ _ c.to_le_bytes.ensures c.put_bytes.ensures ∙ ap (λ (k : ℕ). sets out 0 (bytes_of 4 (k - 4))) c.sheet_size-size.ensures))
     ∙ sym (sets_append (sets out 0 size) sort span 4))
     ∙ sym (sets_append (sets out 0 size) (sort ++ span) metric 4))
     ∙ sym (sets_append (sets out 0 size) (sort ++ span ++ metric) count 4)

@@ -1,9 +1,0 @@
--- `lines::signed_checksum` is safe and ends: the sum keeps 32 bits, and the measure is how many symbols are left.
-use Rattle.std.proofs.Common.{length, ◌-◌, ◌<◌, ◌≤◌, ◌^◌}
-use Rattle.answers.proofs.lines.signed_checksum.Given as goal
-
-abbrev pub invariant-loop-i : goal.invariant-loop-i
-invariant-loop-i l = (l.i ≤ length l.symbols) × (l.sum < 2 ^ 32)
-
-abbrev pub decreases-loop-i : goal.decreases-loop-i
-decreases-loop-i l = length l.symbols - l.i

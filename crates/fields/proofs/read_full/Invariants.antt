@@ -1,9 +1,0 @@
--- `read_full` stays within its buffer and ends: the measure is how many places are left to fill.
-use Rattle.std.proofs.Common.{length, ◌-◌, ◌≤◌}
-use Rattle.fields.proofs.read_full.Given as goal
-
-abbrev pub invariant-loop-done : goal.invariant-loop-done
-invariant-loop-done g l = l.done ≤ length l.into
-
-abbrev pub decreases-loop-done : goal.decreases-loop-done
-decreases-loop-done g l = length l.into - l.done
