@@ -7,6 +7,7 @@ mod say;
 use codes::table::{Code, house};
 use search::decoder::decode;
 use std::io;
+use store::WORDS_PER_NODE;
 
 // More symbols than the longest block has, so that what is a little too long is refused by the decoder.
 const SYMBOLS: usize = 1020;
@@ -17,7 +18,7 @@ const INPUT: usize = 3 + SYMBOLS + 1;
 // The room that working memory is lent for: 48 KiB.
 const ROOM: usize = 2048;
 
-const WORDS: usize = 3 * ROOM;
+const WORDS: usize = WORDS_PER_NODE * ROOM;
 
 // As many steps as a call can be allowed.
 const ALLOWANCE: u32 = u32::MAX;

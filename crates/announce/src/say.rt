@@ -1,6 +1,7 @@
 // What the program says.
 use codes::table::Code;
-use search::decoder::{DecodeError, Found};
+use desk::Refusal;
+use search::seen::Found;
 use show::Digits;
 use std::{fmt, io};
 
@@ -54,21 +55,23 @@ pub fn too_long(rt: &impl Print) -> io::Result<()> {
 }
 
 // A refusal by its number, what it means, and the numbers that it hands back.
-pub fn refused(rt: &impl Print, refusal: DecodeError) -> io::Result<()> {
+pub fn refused(rt: &impl Print, refusal: Refusal) -> io::Result<()> {
     match refusal {
-        DecodeError::BadCode => println!(rt; "refused 1: no house code has this row"),
-        DecodeError::BadSize => {
+        Refusal::BadCode => println!(rt; "refused 1: no house code has this row"),
+        Refusal::BadSize => {
             println!(rt; "refused 2: L or the number of symbols is not as stated")
         }
-        DecodeError::NoRoom { steps } => {
+        Refusal::NoRoom { steps } => {
             println!(rt; "refused 3: the search needs more room; {steps} nodes expanded")
         }
-        DecodeError::NoAllowance { steps } => {
+        Refusal::NoAllowance { steps } => {
             println!(rt; "refused 4: the allowance is spent; {steps} nodes expanded")
         }
-        DecodeError::Tied { metric, steps } => {
+        Refusal::Tied { metric, steps } => {
             print!(rt; "refused 5: tied, two or more messages have the least metric, {metric}")?;
             println!(rt; "; {steps} nodes expanded")
         }
+        // A decode without a sheet gives no other.
+        other => println!(rt; "refused {other}"),
     }
 }

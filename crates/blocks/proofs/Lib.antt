@@ -1,7 +1,11 @@
+pub mod Asked
 pub mod Bytes
 pub mod Closing
 pub mod Distance
+pub mod Early
+pub mod Machines
 pub mod Packing
 pub mod Parts
 pub mod Prices
+pub mod Walks
 pub mod Weights

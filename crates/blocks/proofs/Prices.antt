@@ -4,32 +4,25 @@ use mathlib.Core.Path.{◌≡◌, refl, sym, ap, ◌∙◌}
 use mathlib.Core.List.{List, [], ◌∷◌, map}
 use mathlib.Core.Bool.{Bool, true, false, cond}
 use Prim.Native.Nat.{ℕ, zero, suc, ◌+◌, ◌*◌, ◌/◌, ◌%◌, ◌≤◌, ◌<◌}
-use native.Mathlib.Nat.{mul-le-mul_right, mul_comm, suc-mul}
+use native.Mathlib.Nat.{mul-le-mul, mul-le-mul_right, mul_comm, suc-mul}
 use native.Mathlib.Omega.{arith}
 use lib.Dec.{eqb}
 use lib.ListN.{length, get_or, take}
 use lib.Seq.{take-nil}
-use Rattle.codes.specs.declared.table.Code.{Code}
 use Rattle.std.specs.List.{sum, sum_by, zip}
 use Rattle.std.proofs.lemmas.List.Sums.{sum_by-cons, sum-map}
-use Rattle.codes.specs.Limits.{longest_message}
-use Rattle.codes.specs.Codes.{lawful, block_length, output_bit, branch_outputs}
+use Rattle.codes.specs.Work.{most_branches}
+use Rattle.codes.specs.Codes.{output_bit, branch_outputs}
 use Rattle.blocks.specs.Blocks.{distance}
 use Rattle.blocks.specs.Bounds.{total_weight, heaviest}
-use Rattle.blocks.specs.Packed.{greatest_toll, seen_in, toll_of}
-use Rattle.blocks.proofs.Weights.{block_short}
+use Rattle.blocks.specs.Packed.{seen_limit, greatest_toll, seen_in, toll_of}
+use Rattle.blocks.specs.declared.block.Block.{Block}
 
 -- ---- within the block
 
--- for every read of a branch's symbols: below the top they are all there
-pub branch_within : (c : Code) (l level : ℕ) → level < l + c.memory → level * c.outputs + c.outputs ≤ block_length c l
-branch_within c l level h =
-    omega (
-      arith,
-      mul-le-mul_right {m = suc level} {n = l + c.memory} c.outputs h,
-      suc-mul level c.outputs,
-      mul_comm c.outputs (l + c.memory),
-    )
+-- for every read of a branch's numbers: below the top they are all there
+pub branch_within : (n steps level : ℕ) → level < steps → level * n + n ≤ n * steps
+branch_within n steps level h = omega (arith, mul-le-mul_right {m = suc level} {n = steps} n h, suc-mul level n, mul_comm n steps)
 
 -- ---- the distance as a sum
 
@@ -58,13 +51,13 @@ distance_front (o ∷ outputs) [] n h = rw (take-nil n) refl
 distance_front (o ∷ outputs) (x ∷ seen) zero h = absurd (omega (arith, h))
 distance_front (o ∷ outputs) (x ∷ seen) (suc n) h = ap (λ (d : ℕ). toll_of o x + d) (distance_front outputs seen n (omega (arith, h)))
 
--- a number of 16 bits shows a weight of 15
-toll_most : (agrees : Bool) (x : ℕ) → x < 65536 → cond agrees 0 (x / 2) ≤ greatest_toll
+-- a number shows the weight of its half
+toll_most : (agrees : Bool) (x : ℕ) → x < seen_limit → cond agrees 0 (x / 2) ≤ greatest_toll
 toll_most true x h = omega arith
 toll_most false x h = omega (arith, h)
 
--- for a price: what the places of numbers of 16 bits cost in all
-pub distance_most : (outputs seen : List ℕ) → ((i : ℕ) → get_or seen i 0 < 65536) → distance outputs (seen_in seen) ≤ length outputs * greatest_toll
+-- for a price: what its places cost in all
+pub distance_most : (outputs seen : List ℕ) → ((i : ℕ) → get_or seen i 0 < seen_limit) → distance outputs (seen_in seen) ≤ length outputs * greatest_toll
 unfolding distance seen_in
 distance_most [] seen h = omega arith
 distance_most (o ∷ outputs) [] h = omega arith
@@ -74,12 +67,13 @@ distance_most (o ∷ outputs) (x ∷ seen) h =
 -- ---- what is seen is light
 
 -- each weight is half of its number
-numbers_total : (numbers : List ℕ) → ((i : ℕ) → get_or numbers i 0 < 65536) → total_weight (seen_in numbers) ≤ greatest_toll * length numbers
+numbers_total : (numbers : List ℕ) → ((i : ℕ) → get_or numbers i 0 < seen_limit) → total_weight (seen_in numbers) ≤ greatest_toll * length numbers
 unfolding total_weight seen_in
 numbers_total [] f = omega arith
 numbers_total (x ∷ numbers) f = omega (arith, f 0, numbers_total numbers (λ i. f (suc i)))
 
--- for a block that is made: whatever its numbers are, all of 16 bits, it weighs less than the heaviest
-pub seen_light : (c : Code) (l : ℕ) (seen : List ℕ) → lawful c ≡ true → l ≤ longest_message → length seen ≡ block_length c l
-    → ((i : ℕ) → get_or seen i 0 < 65536) → total_weight (seen_in seen) < heaviest
-seen_light c l seen k s e f = omega (arith, numbers_total seen f, block_short c l k s, e)
+-- for a block: whatever its numbers are, it weighs less than the heaviest
+pub seen_light : (b : Block) → total_weight (seen_in b.seen.now) < heaviest
+seen_light b =
+    let steps : b.bits + b.machine.memory ≤ most_branches = omega (arith, b.span, b.machine.memory_few) in
+    omega (arith, numbers_total b.seen.now b.narrow, b.full, mul-le-mul b.machine.outputs_few steps)

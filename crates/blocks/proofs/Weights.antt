@@ -1,10 +1,9 @@
--- How large weights, blocks and metrics are: a signed byte weighs at most 128, a block of a lawful code has at most 864 symbols,
--- and no metric is above 110,592. What the widths of the program's numbers rest on. Assumes nothing.
+-- How large weights and metrics are: a signed byte weighs at most 128, and no metric is above 110,592. What the widths of the program's
+-- numbers rest on. Assumes nothing.
 use mathlib.Core.Path.{◌≡◌, refl}
 use mathlib.Core.List.{List, [], ◌∷◌}
 use mathlib.Core.Bool.{true}
-use Prim.Native.Nat.{ℕ, ◌+◌, ◌*◌, ◌≤◌}
-use native.Mathlib.Nat.{mul-le-mul}
+use Prim.Native.Nat.{ℕ, ◌*◌, ◌≤◌}
 use native.Mathlib.Omega.{arith}
 use lib.IntN.{ℤ, pos, negsuc}
 use lib.ListN.{length}
@@ -12,23 +11,20 @@ use mir.Syntax.{w8}
 use mir.Val.{SFits}
 use Rattle.lists.proofs.Membership.{here, further, Every}
 use Rattle.codes.specs.declared.table.Code.{Code}
-use Rattle.codes.specs.Limits.{most_memory, longest_message}
+use Rattle.codes.specs.Limits.{longest_message}
 use Rattle.codes.specs.Codes.{lawful, block_length}
-use Rattle.codes.proofs.Rules.{lawful_out, Bounds}
+use Rattle.codes.proofs.Rules.{block_short}
 use Rattle.trellis.specs.Trellis.{Path, Node, metric}
 use Rattle.trellis.specs.Verdict.{least_metric}
 use Rattle.trellis.proofs.Cost.{Cost}
 use Rattle.trellis.proofs.Messages.{least_metric_cost}
 use Rattle.blocks.specs.Symbols.{hard_bit, weight, view}
 use Rattle.blocks.specs.Blocks.{trellis_of}
-use Rattle.blocks.specs.Bounds.{total_weight, longest_block, greatest_weight, greatest_metric}
+use Rattle.blocks.specs.Bounds.{total_weight, greatest_weight, greatest_metric}
 use Rattle.blocks.proofs.Closing.{trellis_lawful}
 use Rattle.blocks.proofs.Distance.{metric_total}
 
--- the limits are the paper's numbers
-pub longest_block_lem : longest_block ≡ 864
-longest_block_lem = refl
-
+-- the limit is the paper's number
 pub greatest_metric_lem : greatest_metric ≡ 110592
 greatest_metric_lem = refl
 
@@ -47,13 +43,6 @@ pub view_total : (symbols : List ℤ) → Every (SFits w8) symbols → total_wei
 unfolding view total_weight
 view_total [] h = omega arith
 view_total (z ∷ symbols) h = omega (arith, weight_byte z (h z (here refl)), view_total symbols (λ a m. h a (further m)))
-
--- 'A block has N = n(L+m) symbols, at most 864.'
-pub block_short : (c : Code) (l : ℕ) → lawful c ≡ true → l ≤ longest_message → block_length c l ≤ longest_block
-block_short c l h k =
-    let b : Bounds c = lawful_out c h in
-    let steps : l + c.memory ≤ longest_message + most_memory = omega (arith, b.memory_most) in
-    mul-le-mul b.outputs_most steps
 
 -- What has been tested before anything is measured: the code, L, and the block's length; that symbols are bytes and that a code has
 -- room for its generators the types say.

@@ -1,7 +1,7 @@
 -- The block as plain numbers, one a place, as the program reads it; and what a place costs by its number.
 -- Not believed: what the program answers is said of the view alone. That the numbers hold the view is Packing's, in proofs/.
 -- Assumes nothing.
-use Rattle.std.specs.Prelude.{List, map, cond, eqb, ℕ, ◌+◌, ◌*◌, ◌/◌, ◌%◌}
+use Rattle.std.specs.Prelude.{List, map, cond, eqb, ℕ, ◌+◌, ◌-◌, ◌*◌, ◌/◌, ◌%◌}
 use Rattle.codes.specs.Limits.{most_outputs}
 use Rattle.blocks.specs.Symbols.{Seen}
 
@@ -27,9 +27,13 @@ seen_in numbers = map unpack numbers
 abbrev pub toll_of : ℕ → ℕ → ℕ
 toll_of output number = cond (eqb output (number % 2)) 0 (number / 2)
 
--- what a place costs at most: half of the largest number of 16 bits
+-- the number of a place is below this
+abbrev pub seen_limit : ℕ
+seen_limit = 2048
+
+-- so this is the most that a place weighs, and costs
 abbrev pub greatest_toll : ℕ
-greatest_toll = 32767
+greatest_toll = seen_limit / 2 - 1
 
 -- what a branch costs at most
 abbrev pub greatest_price : ℕ

@@ -2,13 +2,15 @@
 use crate::encoding::wide;
 use crate::shown::{Rules, Start};
 use codes::table::{Code, house};
-use search::decoder::{Found, decode};
+use search::decoder::decode;
+use search::seen::Found;
 use std::{fmt, io};
+use store::WORDS_PER_NODE;
 
 // The most nodes that there may be room for, and their words.
 const MOST: usize = 4096;
 
-const WORDS: usize = 3 * MOST;
+const WORDS: usize = WORDS_PER_NODE * MOST;
 
 const ALL: u32 = u32::MAX;
 
@@ -122,7 +124,7 @@ impl<'a> Case<'a> {
             symbols,
             room,
             allowance,
-            memory: room.saturating_mul(3),
+            memory: room.saturating_mul(WORDS_PER_NODE),
             places: length.max(1),
         }
     }

@@ -1,5 +1,5 @@
 pub mod Codewords
 pub mod Encodings
-pub mod Machines
+pub mod LawfulCodes
 pub mod Registers
 pub mod Rules

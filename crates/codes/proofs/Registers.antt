@@ -5,15 +5,11 @@ use Prim.Native.Nat.{ℕ, zero, suc, ◌+◌, ◌*◌, ◌/◌, ◌%◌, ◌^◌
 use native.Mathlib.Omega.{arith}
 use lib.Bits.{bit_and, and_step, and_zero_l}
 use lib.Count.{ones, ones_in, ones_step}
-use lib.Pow.{pow_mono, pow-add, shl_exact}
+use lib.Pow.{pow-add, shl_exact}
 use Rattle.codes.specs.Limits.{most_memory}
 use Rattle.codes.specs.Codes.{next_state}
 
 -- ---- powers
-
--- for shifts by a memory: a power of at most 2^17 is not cut
-pub power_small : (k : ℕ) → k ≤ 17 → 2 ^ k ≤ 131072
-power_small k h = pow_mono h
 
 -- for the greatest generator: the shift cuts nothing, it gives 2^(m+1)
 pub shifted : (m : ℕ) → m ≤ most_memory → (2 * 2 ^ m) % 2 ^ 32 ≡ 2 ^ (m + 1)

@@ -8,14 +8,13 @@ use native.Mathlib.Omega.{arith}
 use borrow.Author.Tests.{leb-true}
 use lib.Dec.{leb}
 use lib.ListN.{length, get_or}
-use lib.Seq.{length-take-le}
 use Rattle.std.specs.List.{list_all}
 use Rattle.lists.specs.Lists.{all}
 use Rattle.lists.proofs.Scan.{all_within, all_get_or}
 use Rattle.lists.proofs.Tests.{both}
 use Rattle.codes.specs.Codes.{from, generators_of, lawful, house_codes, house_code, block_length}
 use Rattle.codes.specs.Encoding.{is_bit}
-use Rattle.codes.specs.Work.{Encodable}
+use Rattle.codes.specs.Work.{longest_block, Encodable}
 use Rattle.codes.specs.Limits.{fewest_outputs, most_outputs, least_memory, most_memory, longest_message}
 use Rattle.codes.specs.declared.table.Code.{Code}
 
@@ -47,13 +46,12 @@ lawful_out c h =
     let m = from_out least_memory most_memory c.memory q.1 in
     record { outputs_least = n.0; outputs_most = n.1; memory_least = m.0; memory_most = m.1; generators = p.1 }
 
--- for the part of a table of four that counts: it has n generators
-pub generators_counted : (c : Code) → lawful c ≡ true → length c.generators ≡ 4 → length (generators_of c) ≡ c.outputs
-generators_counted c h four = length-take-le c.outputs c.generators (omega (arith, four, (lawful_out c h).outputs_most))
+-- 'A block has N = n(L+m) symbols, at most 864.'
+pub longest_block_lem : longest_block ≡ 864
+longest_block_lem = refl
 
--- for products of sizes: a block is short
-pub symbols_few : (c : Code) (l : ℕ) → lawful c ≡ true → l ≤ longest_message → block_length c l ≤ 864
-symbols_few c l h k =
+pub block_short : (c : Code) (l : ℕ) → lawful c ≡ true → l ≤ longest_message → block_length c l ≤ longest_block
+block_short c l h k =
     let b = lawful_out c h in
     omega (arith, b.memory_most, mul-le-mul_right (l + c.memory) b.outputs_most)
 

@@ -73,6 +73,10 @@ with_tail m message = message ++ replicate m 0
 unfoldable pub codeword : Code → List ℕ → List ℕ
 codeword c message = outputs_from (generators_of c) c.memory 0 (with_tail c.memory message)
 
--- N = n(L+m): 'A block has N = n(L+m) symbols'
+-- L+m: the branches of a message of L bits, its tail's with them
+abbrev pub branches : Code → ℕ → ℕ
+branches c l = l + c.memory
+
+-- 'A block has N = n(L+m) symbols'
 abbrev pub block_length : Code → ℕ → ℕ
-block_length c l = c.outputs * (l + c.memory)
+block_length c l = c.outputs * branches c l

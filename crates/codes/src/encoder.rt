@@ -7,49 +7,27 @@ ghost use Rattle.codes.specs.Work.{Encodable};
 
 use crate::limits::{LONGEST_MESSAGE, SHORTEST_MESSAGE};
 use crate::register::{Register, output_bit};
-use crate::table::{Code, Machine};
-use std::error::Error;
-use std::fmt;
-
-// Why `encode` refuses: the paper's refusals 1, 2 and 6. (An enum for each operation: one for all would have cases that an operation never
-// gives.)
-#[derive(Clone, Copy, Debug, PartialEq, Eq)]
-pub enum EncodeError {
-    BadCode,
-    BadSize,
-    Malformed,
-}
-
-impl fmt::Display for EncodeError {
-    fn fmt<W: fmt::Write>(&self, f: &mut fmt::Formatter<W>) -> fmt::Result {
-        f.write_str(match self {
-            EncodeError::BadCode => "1 code outside the rules",
-            EncodeError::BadSize => "2 a length not as stated",
-            EncodeError::Malformed => "6 malformed",
-        })
-    }
-}
-
-impl Error for EncodeError {}
+use crate::table::{Code, LawfulCode};
+use desk::Refusal;
 
 // Encodes a message of bits, one a byte, with the zero tail, and answers the number of symbols. On a refusal nothing is written.
-#[tactic(auto, using(std::proofs::lemmas::Bool::Decides::nat_tests, crate::proofs::Rules::symbols_few), unfolding(crate::specs::Encoding::told, crate::specs::Encoding::encoding))]
-pub fn encode(code: Code, message: &[u8], out: &mut [u8]) -> Result<usize, EncodeError>
+#[tactic(auto, using(std::proofs::lemmas::Bool::Decides::nat_tests, crate::proofs::LawfulCodes::unlawful, crate::proofs::LawfulCodes::same_code), unfolding(desk::specs::Desk::told_by, desk::specs::Desk::refused, desk::specs::Desk::tested, crate::specs::Encoding::encoding))]
+pub fn encode(code: Code, message: &[u8], out: &mut [u8]) -> Result<usize, Refusal>
     ensures { told result out.new ≡ encoding code message.now out.old }
 {
-    let machine = Machine::new(code).ok_or(EncodeError::BadCode)?;
+    let kept = LawfulCode::new(code).ok_or(Refusal::BadCode)?;
     let bits = message.len();
     if !(SHORTEST_MESSAGE..=LONGEST_MESSAGE).contains(&bits) {
-        return Err(EncodeError::BadSize);
+        return Err(Refusal::BadSize);
     }
-    let symbols = code.outputs as usize * (bits + code.memory as usize);
+    let symbols = kept.block_length(bits);
     if out.len() < symbols {
-        return Err(EncodeError::BadSize);
+        return Err(Refusal::BadSize);
     }
     if !are_bits(message) {
-        return Err(EncodeError::Malformed);
+        return Err(Refusal::Malformed);
     }
-    put_codeword(machine, message, out);
+    put_codeword(kept, message, out);
     Ok(symbols)
 }
 
@@ -69,16 +47,16 @@ fn bit_at(message: &[u8], i: usize) -> u8
 
 // Writes the codeword over the front of the buffer, branch by branch.
 #[tactic(auto, using(crate::proofs::Codewords::writing), unfolding(crate::specs::Codes::codeword))]
-fn put_codeword(machine: Machine, message: &[u8], out: &mut [u8])
-    requires { Encodable machine.code message.now (length out.old) }
-    ensures { out.new ≡ codeword machine.code message.now ++ drop (block_length machine.code (length message.now)) out.old }
+fn put_codeword(kept: LawfulCode, message: &[u8], out: &mut [u8])
+    requires { Encodable kept.code message.now (length out.old) }
+    ensures { out.new ≡ codeword kept.code message.now ++ drop (block_length kept.code (length message.now)) out.old }
 {
-    let code = machine.code;
+    let code = kept.code;
     let n = code.outputs as usize;
     let generators = &code.generators[..n];
-    let steps = message.len() + code.memory as usize;
+    let branches = kept.branches(message.len());
     let mut register = Register::start(code.memory);
-    for i in 0..steps {
+    for i in 0..branches {
         let bit = bit_at(message, i);
         let at = n * i;
         put_branch(generators, register.with(bit), &mut out[at..at + n]);

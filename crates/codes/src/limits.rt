@@ -12,5 +12,7 @@ pub const SHORTEST_MESSAGE: usize = 1;
 
 pub const LONGEST_MESSAGE: usize = 200;
 
-// The symbols of the longest block.
-pub const LONGEST_BLOCK: usize = 864;
+// The branches of the longest block, and its symbols.
+pub const MOST_BRANCHES: usize = LONGEST_MESSAGE + MOST_MEMORY as usize;
+
+pub const LONGEST_BLOCK: usize = MOST_OUTPUTS as usize * MOST_BRANCHES;

@@ -1,7 +1,8 @@
 // A code, the rules it must keep, and the four house codes.
-ghost use Rattle.std.specs.Prelude.{◌≡◌, true, false, MatchOption, length};
+ghost use Rattle.std.specs.Prelude.{◌≡◌, ◌≤◌, true, false, MatchOption, length};
 ghost use Rattle.lists.specs.Lists.{all};
-ghost use Rattle.codes.specs.Codes.{from, lawful, house_code};
+ghost use Rattle.codes.specs.Limits.{longest_message};
+ghost use Rattle.codes.specs.Codes.{from, lawful, house_code, branches, block_length};
 
 use crate::limits::{FEWEST_OUTPUTS, LEAST_MEMORY, MOST_MEMORY, MOST_OUTPUTS};
 
@@ -14,24 +15,41 @@ pub struct Code {
     pub generators: [u32; 4],
 }
 
-// A code that keeps the rules.
+// A code that keeps the rules: whatever takes one need not ask.
 #[derive(Clone, Copy)]
-pub struct Machine {
+pub struct LawfulCode {
     pub code: Code,
-    ghost kept: { lawful code ≡ true },
+    ghost rules: { lawful code ≡ true },
     ghost four: { length code.generators ≡ 4 },
 }
 
-impl Machine {
-    // The machine of a code; there is none of a code outside the rules.
-    pub fn new(code: Code) -> Option<Machine>
-        ensures { MatchOption result (lawful code ≡ false) (λ machine. machine.code ≡ code) }
+impl LawfulCode {
+    // A code that was tested: none where it is outside the rules.
+    pub fn new(code: Code) -> Option<LawfulCode>
+        ensures { MatchOption result (lawful code ≡ false) (λ kept. kept.code ≡ code) }
     {
         if keeps_rules(code) {
-            Some(Machine { code })
+            Some(LawfulCode { code })
         } else {
             None
         }
+    }
+
+    // L+m: the branches of a message of so many bits.
+    pub fn branches(self, bits: usize) -> usize
+        requires { bits ≤ longest_message }
+        ensures { result ≡ branches self.code bits }
+    {
+        bits + self.code.memory as usize
+    }
+
+    // N: the symbols of its block.
+    #[tactic(auto, using(crate::proofs::Rules::block_short))]
+    pub fn block_length(self, bits: usize) -> usize
+        requires { bits ≤ longest_message }
+        ensures { result ≡ block_length self.code bits }
+    {
+        self.code.outputs as usize * self.branches(bits)
     }
 }
 

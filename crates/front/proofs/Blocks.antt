@@ -17,7 +17,7 @@ use Rattle.std.specs.Float.{float_is_finite}
 use Rattle.std.specs.List.{position_or_len}
 use Rattle.std.proofs.lemmas.Int.{to_z-of_z}
 use Rattle.std.proofs.lemmas.List.Recursion.{is_position_or_len}
-use Rattle.front.specs.Reports.{seen, seen_all, report_of}
+use Rattle.front.specs.Reports.{updated, updated_all, report_of}
 use Rattle.front.specs.Fronting.{finite_run}
 use Rattle.front.specs.declared.Report.{Report}
 use Rattle.front.proofs.Choices.{cond_in}
@@ -27,20 +27,20 @@ use Rattle.front.proofs.Numbers.{finite_is}
 
 -- for the loop's start: the first reading, seen again, changes nothing
 pub seen_first : (readings : List Float) → 0 < length readings
-    → seen_all (record { lowest = get_or readings 0 nan; highest = get_or readings 0 nan }) readings ≡ report_of readings
-unfolding seen_all report_of
+    → updated_all (record { lowest = get_or readings 0 nan; highest = get_or readings 0 nan }) readings ≡ report_of readings
+unfolding updated_all report_of
 seen_first [] h = absurd (omega arith)
 seen_first (x ∷ xs) h = rw (cond_in (λ (y : Float). y ≡ x) (Ieee.lt x x) x x (λ _. refl) (λ _. refl))
 
 -- for a turn of the loop
 pub seen_next : (report : Report) (readings : List Float) (i : ℕ) → i < length readings
-    → seen_all report (drop i readings) ≡ seen_all (seen report (get_or readings i nan)) (drop (i + 1) readings)
-unfolding seen_all
+    → updated_all report (drop i readings) ≡ updated_all (updated report (get_or readings i nan)) (drop (i + 1) readings)
+unfolding updated_all
 seen_next report readings i h = rw (drop-cons readings i nan h, add-one)
 
 -- for the loop's end
-pub seen_done : (report : Report) (readings : List Float) (i : ℕ) → length readings ≤ i → seen_all report (drop i readings) ≡ report
-unfolding seen_all
+pub seen_done : (report : Report) (readings : List Float) (i : ℕ) → length readings ≤ i → updated_all report (drop i readings) ≡ report
+unfolding updated_all
 seen_done report readings i h = rw (drop_of_length-le readings h)
 
 -- ---- the symbols

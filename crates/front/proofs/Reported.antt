@@ -13,7 +13,7 @@ use lib.Ieee.{Float, binary32}
 use lib.Ieee.Bits.{of_bits-to_bits}
 use lib.Ieee.Scale.{finite}
 use Rattle.front.specs.Symbols.{good}
-use Rattle.front.specs.Reports.{seen, seen_all, report_of}
+use Rattle.front.specs.Reports.{updated, updated_all, report_of}
 use Rattle.front.specs.Fronting.{Fronting, sizes_fit, finite_run, fronting}
 use Rattle.front.specs.declared.FrontEnd.{FrontEnd}
 use Rattle.front.specs.declared.Report.{Report}
@@ -27,15 +27,15 @@ Finite lowest highest = T (finite lowest) × T (finite highest)
 -- ---- a report of finite readings
 
 -- for the step from a report to that of more readings
-seen_finite : (report : Report) (readings : List Float) → Finite report.lowest report.highest → finite_run readings ≡ length readings
-    → Finite (seen_all report readings).lowest (seen_all report readings).highest
-unfolding seen_all finite_run
-seen_finite report [] h whole = h
-seen_finite report (x ∷ xs) h whole =
+updated_finite : (report : Report) (readings : List Float) → Finite report.lowest report.highest → finite_run readings ≡ length readings
+    → Finite (updated_all report readings).lowest (updated_all report readings).highest
+unfolding updated_all finite_run
+updated_finite report [] h whole = h
+updated_finite report (x ∷ xs) h whole =
     let more = whole_next (finite x) (finite_run xs) (length xs) whole in
     let lowest = cond_in (λ (y : Float). T (finite y)) (Ieee.lt x report.lowest) x report.lowest (λ _. more.0) (λ _. h.0) in
     let highest = cond_in (λ (y : Float). T (finite y)) (Ieee.lt report.highest x) x report.highest (λ _. more.0) (λ _. h.1) in
-    seen_finite (seen report x) xs (lowest, highest) more.1
+    updated_finite (updated report x) xs (lowest, highest) more.1
 
 -- for a block that passed every test
 report_finite : (readings : List Float) → finite_run readings ≡ length readings → Finite (report_of readings).lowest (report_of readings).highest
@@ -43,7 +43,7 @@ unfolding report_of finite_run Ieee.of_bits
 report_finite [] whole = (tt, tt)
 report_finite (x ∷ xs) whole =
     let more = whole_next (finite x) (finite_run xs) (length xs) whole in
-    seen_finite (record { lowest = x; highest = x }) xs (more.0, more.0) more.1
+    updated_finite (record { lowest = x; highest = x }) xs (more.0, more.0) more.1
 
 -- ---- what is handed back
 

@@ -3,4 +3,4 @@ pub mod Rounding
 pub mod Symbols
 pub mod Reports
 pub mod Fronting
-pub mod Convertible
+pub mod Work

@@ -10,19 +10,19 @@ abbrev pub no_report : Report
 no_report = record { lowest = plus_zero; highest = plus_zero }
 
 -- after one more reading: only a lower or a higher one takes the place of what was seen before
-abbrev pub seen : Report → Float → Report
-seen report reading =
+abbrev pub updated : Report → Float → Report
+updated report reading =
     record {
       lowest = cond (Ieee.lt reading report.lowest) reading report.lowest;
       highest = cond (Ieee.lt report.highest reading) reading report.highest;
     }
 
 -- and after many, in the order in which they are read
-unfoldable pub seen_all : Report → List Float → Report
-seen_all report [] = report
-seen_all report (reading ∷ readings) = seen_all (seen report reading) readings
+unfoldable pub updated_all : Report → List Float → Report
+updated_all report [] = report
+updated_all report (reading ∷ readings) = updated_all (updated report reading) readings
 
 -- The first reading is at first the lowest and the highest. (A block has one.)
 unfoldable pub report_of : List Float → Report
 report_of [] = no_report
-report_of (reading ∷ readings) = seen_all (record { lowest = reading; highest = reading }) readings
+report_of (reading ∷ readings) = updated_all (record { lowest = reading; highest = reading }) readings

@@ -8,9 +8,9 @@ ghost use Rattle.std.specs.Float.Ieee.Scale.{finite};
 ghost use Rattle.front.specs.Limits.{furthest};
 ghost use Rattle.front.specs.Rounding.{nearest, rounded};
 ghost use Rattle.front.specs.Symbols.{good_gain, good, symbol_of};
-ghost use Rattle.front.specs.Reports.{seen, report_of};
+ghost use Rattle.front.specs.Reports.{updated, report_of};
 ghost use Rattle.front.specs.Fronting.{told, fronting};
-ghost use Rattle.front.specs.Convertible.{Convertible};
+ghost use Rattle.front.specs.Work.{Convertible};
 
 use std::error::Error;
 use std::fmt;
@@ -103,7 +103,7 @@ fn convert(front_end: FrontEnd, readings: &[f32], symbols: &mut [i8]) -> Report
     };
     // (The symbol by its index: of what is written through a zip of `symbols.iter_mut()` the proof learns nothing.)
     for (i, reading) in readings.iter().enumerate() {
-        report = report.seen(*reading);
+        report = report.updated(*reading);
         symbols[i] = front_end.symbol(*reading);
     }
     report
@@ -119,8 +119,8 @@ fn first_not_finite(readings: &[f32]) -> Option<usize>
 impl Report {
     // The report after one more reading: of equal ones the first seen stays.
     // (Not `f32::min` and `f32::max`: of 0 and -0 these may give either, and `report_of` says that the first stays.)
-    fn seen(self, reading: f32) -> Report
-        ensures { result ≡ seen self reading }
+    fn updated(self, reading: f32) -> Report
+        ensures { result ≡ updated self reading }
     {
         let lowest = if reading < self.lowest {
             reading

@@ -1,4 +1,2 @@
-pub mod Told
-pub mod Sheet
 pub mod Front
 pub mod Pinned

@@ -11,7 +11,7 @@ use Rattle.codes.specs.Encoding.{encoding}
 use Rattle.search.specs.Decoding.{decoding}
 use Rattle.sheets.specs.Checking.{checking}
 use Rattle.writer.specs.Sheeting.{sheeting}
-use Rattle.plumtassel.specs.Face.{code_of, face_code, encoded, decoded, sheeted, checked}
+use Rattle.plumtassel.specs.Face.{code_of, face_code, faced}
 use Rattle.plumtassel.specs.Fronts.{struct_fronting, reported}
 use Rattle.plumtassel.specs.declared.Code.{Code}
 use Rattle.plumtassel.specs.declared.Answer.{Answer}
@@ -25,29 +25,25 @@ parts_pinned {A} {B} h h' = let e = h ∙ sym h' in (ap (λ (x : A × B). x.0) e
 pub house_pinned : (row : ℕ) (r r' : Code) → r ≡ face_code (house_code row) → r' ≡ face_code (house_code row) → r ≡ r'
 house_pinned row r r' h h' = h ∙ sym h'
 
-pub encode_pinned : (c : Code) (message out : List ℕ) (r r' : Answer) (exit exit' : List ℕ) → (r, exit) ≡ encoded (encoding (code_of c) message out)
-    → (r', exit') ≡ encoded (encoding (code_of c) message out) → (r ≡ r') × (exit ≡ exit')
+pub encode_pinned : (c : Code) (message out : List ℕ) (r r' : Answer) (exit exit' : List ℕ) → (r, exit) ≡ faced (encoding (code_of c) message out)
+    → (r', exit') ≡ faced (encoding (code_of c) message out) → (r ≡ r') × (exit ≡ exit')
 encode_pinned c message out r r' exit exit' h h' = parts_pinned h h'
 
 pub decode_pinned : (c : Code) (l : ℕ) (symbols : List ℤ) (room allowance : ℕ) (work work' message : List ℕ) (r r' : Answer) (exit exit' : List ℕ)
-    → length work ≡ length work' → (r, exit) ≡ decoded (decoding (code_of c) l symbols room allowance (length work) message)
-    → (r', exit') ≡ decoded (decoding (code_of c) l symbols room allowance (length work') message) → (r ≡ r') × (exit ≡ exit')
+    → length work ≡ length work' → (r, exit) ≡ faced (decoding (code_of c) l symbols room allowance (length work) message)
+    → (r', exit') ≡ faced (decoding (code_of c) l symbols room allowance (length work') message) → (r ≡ r') × (exit ≡ exit')
 decode_pinned c l symbols room allowance work work' message r r' exit exit' e h h' = parts_pinned (rw e at h) h'
 
 pub decode_sheet_pinned : (c : Code) (l : ℕ) (symbols : List ℤ) (room allowance : ℕ) (work work' message sheet : List ℕ) (r r' : Answer)
     (exit exit' written written' : List ℕ) → length work ≡ length work'
-    → (r, exit, written) ≡ sheeted (sheeting (code_of c) l symbols room allowance (length work) message sheet)
-    → (r', exit', written') ≡ sheeted (sheeting (code_of c) l symbols room allowance (length work') message sheet)
+    → (r, (exit, written)) ≡ faced (sheeting (code_of c) l symbols room allowance (length work) message sheet)
+    → (r', (exit', written')) ≡ faced (sheeting (code_of c) l symbols room allowance (length work') message sheet)
     → (r ≡ r') × (exit ≡ exit') × (written ≡ written')
 decode_sheet_pinned c l symbols room allowance work work' message sheet r r' exit exit' written written' e h h' =
-    let q = (rw e at h) ∙ sym h' in (
-      ap (λ (x : Answer × List ℕ × List ℕ). x.0) q,
-      ap (λ (x : Answer × List ℕ × List ℕ). x.1) q,
-      ap (λ (x : Answer × List ℕ × List ℕ). x.2) q,
-    )
+    let q = parts_pinned (rw e at h) h' in (q.0, ap (λ (x : List ℕ × List ℕ). x.0) q.1, ap (λ (x : List ℕ × List ℕ). x.1) q.1)
 
 pub check_pinned : (c : Code) (l : ℕ) (symbols : List ℤ) (sheet message : List ℕ) (r r' : Answer) (exit exit' : List ℕ)
-    → (r, exit) ≡ checked (checking (code_of c) l symbols sheet message) → (r', exit') ≡ checked (checking (code_of c) l symbols sheet message)
+    → (r, exit) ≡ faced (checking (code_of c) l symbols sheet message) → (r', exit') ≡ faced (checking (code_of c) l symbols sheet message)
     → (r ≡ r') × (exit ≡ exit')
 check_pinned c l symbols sheet message r r' exit exit' h h' = parts_pinned h h'
 

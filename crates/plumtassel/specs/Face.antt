@@ -1,12 +1,7 @@
--- How the structs of the C face say what the operations' definitions say. Believed, beside the definition of each operation. A field
--- that an operation has no value for is 0: document 01, 'Values not named in a row are 0.' What the front end's struct means is in
--- Fronts. Assumes nothing.
-use Rattle.std.specs.Prelude.{List, ℕ}
-use Rattle.codes.specs.Encoding.{Encoding}
+-- How the structs of the C face say what the operations' definitions say. Believed, beside the definition of each operation. What the front
+-- end's struct means is in Fronts. Assumes nothing.
+use Rattle.desk.specs.Desk.{Reply, Handed}
 use Rattle.codes.specs.declared.table.Code as codes
-use Rattle.search.specs.Decoding.{Decoding}
-use Rattle.sheets.specs.Checking.{Checking}
-use Rattle.writer.specs.Sheeting.{Sheeting}
 use Rattle.plumtassel.specs.declared.Code.{Code}
 use Rattle.plumtassel.specs.declared.Answer.{Answer}
 
@@ -17,18 +12,10 @@ code_of c = record { outputs = c.outputs; memory = c.memory; generators = c.gene
 abbrev pub face_code : codes.Code → Code
 face_code c = record { outputs = c.outputs; memory = c.memory; generators = c.generators }
 
--- what the encoder hands back, and its buffer: 'The encoder writes N bytes, each 0 or 1, and gives N', as the length
-abbrev pub encoded : Encoding → Answer × List ℕ
-encoded e = (record { number = e.number; metric = 0; steps = 0; length = e.symbols }, e.out)
+-- what an operation replies, value by value: a size is the length. 'Values not named in a row are 0.'
+abbrev pub answer_of : Reply → Answer
+answer_of r = record { number = r.number; metric = r.metric; steps = r.steps; length = r.size }
 
--- what the decoder hands back, and the message buffer: 'An answered decode writes L message bytes and gives metric and E', as the steps
-abbrev pub decoded : Decoding → Answer × List ℕ
-decoded d = (record { number = d.number; metric = d.metric; steps = d.steps; length = 0 }, d.message)
-
--- what the decoder that also writes a sheet hands back, and both buffers: it 'gives its length too', or with 9 'the size needed'
-abbrev pub sheeted : Sheeting → Answer × List ℕ × List ℕ
-sheeted s = (record { number = s.number; metric = s.metric; steps = s.steps; length = s.size }, s.message, s.sheet)
-
--- what the check hands back, and the message buffer: 'On acceptance the check gives M and writes the L message bytes.'
-abbrev pub checked : Checking → Answer × List ℕ
-checked k = (record { number = k.number; metric = k.metric; steps = 0; length = 0 }, k.message)
+-- and the buffers, or both of them, as they are then
+abbrev pub faced : {Buffers : Type 0} → Handed Buffers → Answer × Buffers
+faced h = (answer_of h.reply, h.buffers)

@@ -1,3 +1,3 @@
 pub mod Face
 pub mod Fronts
-pub mod Made
+pub mod Choices

@@ -3,22 +3,26 @@
 // include/plumtassel.h declares them there. (Parameters that travel together stay apart: C interface.)
 #![tactic(auto)]
 
-ghost use Rattle.std.specs.Prelude.{◌≡◌, Err, length as len};
+ghost use Rattle.std.specs.Prelude.{◌≡◌, length as len};
+ghost use Rattle.desk.specs.Desk.{numbered, refused};
 ghost use Rattle.codes.specs.Codes.{house_code};
 ghost use Rattle.codes.specs.Encoding.{encoding};
-ghost use Rattle.search.specs.Decoding.{decoding};
+ghost use Rattle.search.specs.Decoding.{found as reply_of, decoding};
 ghost use Rattle.sheets.specs.Checking.{checking};
 ghost use Rattle.writer.specs.Sheeting.{sheeting};
-ghost use Rattle.plumtassel.specs.Face.{face_code, code_of, encoded, decoded, sheeted, checked};
+ghost use Rattle.plumtassel.specs.Face.{face_code, code_of, answer_of, faced};
 ghost use Rattle.plumtassel.specs.Fronts.{struct_fronting, reported};
-ghost use Rattle.plumtassel.specs.Made.{refusal, encoder_answer, decoder_answer, check_answer, choice};
+ghost use Rattle.plumtassel.specs.Choices.{choice};
 
-use codes::encoder::{EncodeError, encode};
+use codes::encoder::encode;
 use codes::table::house;
+use desk::Refusal;
 use front::{FrontError, Fronted, front};
-use search::decoder::{DecodeError, Found, decode};
-use sheets::check::{CheckError, check};
-use writer::writer::{SheetError, decode_sheet};
+use search::decoder::decode;
+use search::seen::Found;
+use sheets::check::check;
+use writer::seen::FoundSheet;
+use writer::writer::decode_sheet;
 
 // n outputs, memory m, and room for four generators, of which the first n count. (A twin of the table's own `Code`, laid out as C does: C
 // interface.)
@@ -72,22 +76,22 @@ pub fn plumtassel_house(row: usize) -> Code
 }
 
 // Encodes a message of bits, one a byte, with the zero tail.
-#[tactic(auto, using(codes::proofs::Rules::symbols_few, crate::proofs::Told::encoder_told), unfolding(codes::specs::Encoding::encoding))]
+#[tactic(auto, using(codes::proofs::Rules::block_short), unfolding(desk::specs::Desk::told_by, desk::specs::Desk::tested, codes::specs::Encoding::encoding))]
 pub fn plumtassel_encode(code: Code, message: &[u8], out: &mut [u8]) -> Answer
-    ensures { (result, out.new) ≡ encoded (encoding (code_of code) message.now out.old) }
+    ensures { (result, out.new) ≡ faced (encoding (code_of code) message.now out.old) }
 {
     match encode(code.into(), message, out) {
         Ok(symbols) => Answer {
             length: symbols as u32,
             ..Answer::default()
         },
-        Err(error) => error.into(),
+        Err(why) => why.into(),
     }
 }
 
 // Decodes a block: the message that alone has the least metric, or the refusal that node order says. Of the working memory only its size
 // counts.
-#[tactic(auto, using(crate::proofs::Told::decoder_told))]
+#[tactic(auto, unfolding(desk::specs::Desk::told_by))]
 pub fn plumtassel_decode(
     code: Code,
     length: usize,
@@ -98,20 +102,16 @@ pub fn plumtassel_decode(
     message: &mut [u8],
 ) -> Answer
     ensures { (result, message.new)
-        ≡ decoded (decoding (code_of code) length symbols.now room allowance (len work.old) message.old) }
+        ≡ faced (decoding (code_of code) length symbols.now room allowance (len work.old) message.old) }
 {
     match decode(code.into(), length, symbols, room, allowance, work, message) {
-        Ok(Found { metric, steps }) => Answer {
-            metric,
-            steps,
-            ..Answer::default()
-        },
-        Err(error) => error.into(),
+        Ok(found) => found.into(),
+        Err(why) => why.into(),
     }
 }
 
 // The same, and the honest sheet of the answer.
-#[tactic(auto, using(crate::proofs::Told::decoder_told, crate::proofs::Sheet::sheeting_most), unfolding(writer::specs::Sheeting::told))]
+#[tactic(auto, unfolding(desk::specs::Desk::told_by))]
 pub fn plumtassel_decode_sheet(
     code: Code,
     length: usize,
@@ -122,8 +122,8 @@ pub fn plumtassel_decode_sheet(
     message: &mut [u8],
     sheet: &mut [u8],
 ) -> Answer
-    ensures { (result, message.new, sheet.new)
-        ≡ sheeted (sheeting (code_of code) length symbols.now room allowance (len work.old) message.old sheet.old) }
+    ensures { (result, (message.new, sheet.new))
+        ≡ faced (sheeting (code_of code) length symbols.now room allowance (len work.old) message.old sheet.old) }
 {
     match decode_sheet(
         code.into(),
@@ -135,24 +135,16 @@ pub fn plumtassel_decode_sheet(
         message,
         sheet,
     ) {
-        Ok(found) => Answer {
-            metric: found.metric,
-            steps: found.steps,
-            length: found.bytes as u32,
-            ..Answer::default()
+        Ok(FoundSheet { found, bytes }) => Answer {
+            length: bytes,
+            ..found.into()
         },
-        // Here and not in a `From<SheetError>`: that the bytes fit 32 bits is known only here.
-        Err(SheetError::Decode(error)) => error.into(),
-        Err(SheetError::NoSheetRoom { bytes }) => Answer {
-            number: 9,
-            length: bytes as u32,
-            ..Answer::default()
-        },
+        Err(why) => why.into(),
     }
 }
 
 // Checks a sheet for a block: accepted, its message is the only one of least metric.
-#[tactic(auto, using(crate::proofs::Told::check_told))]
+#[tactic(auto, unfolding(desk::specs::Desk::told_by))]
 pub fn plumtassel_check(
     code: Code,
     length: usize,
@@ -161,14 +153,14 @@ pub fn plumtassel_check(
     message: &mut [u8],
 ) -> Answer
     ensures { (result, message.new)
-        ≡ checked (checking (code_of code) length symbols.now sheet.now message.old) }
+        ≡ faced (checking (code_of code) length symbols.now sheet.now message.old) }
 {
     match check(code.into(), length, symbols, sheet, message) {
         Ok(least) => Answer {
             metric: least,
             ..Answer::default()
         },
-        Err(error) => error.into(),
+        Err(why) => why.into(),
     }
 }
 
@@ -237,61 +229,54 @@ impl From<codes::table::Code> for Code {
     }
 }
 
-// A refusal of `encode` as the caller takes it.
-impl From<EncodeError> for Answer {
-    ghost from_gives = { λ error answer. answer ≡ encoder_answer (Err error) };
+// What a decode found, as the caller takes it.
+impl From<Found> for Answer {
+    ghost from_gives = { λ found answer. answer ≡ answer_of (reply_of found) };
 
-    fn from(error: EncodeError) -> Answer {
-        match error {
-            EncodeError::BadCode => refused(1),
-            EncodeError::BadSize => refused(2),
-            EncodeError::Malformed => refused(6),
+    fn from(found: Found) -> Answer {
+        Answer {
+            metric: found.metric,
+            steps: found.steps,
+            ..Answer::default()
         }
     }
 }
 
-// A refusal of `decode`.
-impl From<DecodeError> for Answer {
-    ghost from_gives = { λ error answer. answer ≡ decoder_answer (Err error) };
+// A refusal of any operation but the front end.
+#[tactic(auto, unfolding(desk::specs::Desk::refused))]
+impl From<Refusal> for Answer {
+    ghost from_gives = { λ why answer. answer ≡ answer_of (refused why) };
 
-    fn from(error: DecodeError) -> Answer {
-        match error {
-            DecodeError::BadCode => refused(1),
-            DecodeError::BadSize => refused(2),
-            DecodeError::NoRoom { steps } => Answer {
+    fn from(why: Refusal) -> Answer {
+        match why {
+            Refusal::BadCode => numbered(1),
+            Refusal::BadSize => numbered(2),
+            Refusal::NoRoom { steps } => Answer {
                 steps,
-                ..refused(3)
+                ..numbered(3)
             },
-            DecodeError::NoAllowance { steps } => Answer {
+            Refusal::NoAllowance { steps } => Answer {
                 steps,
-                ..refused(4)
+                ..numbered(4)
             },
-            DecodeError::Tied { metric, steps } => Answer {
+            Refusal::Tied { metric, steps } => Answer {
                 metric,
                 steps,
-                ..refused(5)
+                ..numbered(5)
+            },
+            Refusal::Malformed => numbered(6),
+            Refusal::NotCarried => numbered(7),
+            Refusal::NoSheetRoom { bytes } => Answer {
+                length: bytes,
+                ..numbered(9)
             },
         }
     }
 }
 
-// A refusal of `check`.
-impl From<CheckError> for Answer {
-    ghost from_gives = { λ error answer. answer ≡ check_answer (Err error) };
-
-    fn from(error: CheckError) -> Answer {
-        match error {
-            CheckError::BadCode => refused(1),
-            CheckError::BadSize => refused(2),
-            CheckError::Malformed => refused(6),
-            CheckError::NotCarried => refused(7),
-        }
-    }
-}
-
-// A refusal with nothing but its number.
-fn refused(number: u32) -> Answer
-    ensures { result ≡ refusal number }
+// A number with no values.
+fn numbered(number: u32) -> Answer
+    ensures { result ≡ answer_of (numbered number) }
 {
     Answer {
         number,

@@ -8,7 +8,7 @@ ghost use Rattle.codes.specs.Encoding.{encoding};
 ghost use Rattle.search.specs.Decoding.{decoding};
 ghost use Rattle.sheets.specs.Checking.{checking};
 ghost use Rattle.writer.specs.Sheeting.{sheeting};
-ghost use Rattle.plumtassel.specs.Face.{face_code, code_of, encoded, decoded, sheeted, checked};
+ghost use Rattle.plumtassel.specs.Face.{face_code, code_of, faced};
 ghost use Rattle.plumtassel.specs.Fronts.{struct_fronting, reported};
 
 use plumtassel::{Answer, Code, FrontEnd, Report};
@@ -24,7 +24,7 @@ pub extern "C" fn plumtassel_house(row: usize) -> Code
 // Encodes a message of bits, one a byte, with the zero tail.
 #[unsafe(no_mangle)]
 pub extern "C" fn plumtassel_encode(code: Code, message: &[u8], out: &mut [u8]) -> Answer
-    ensures { (result, out.new) ≡ encoded (encoding (code_of code) message.now out.old) }
+    ensures { (result, out.new) ≡ faced (encoding (code_of code) message.now out.old) }
 {
     plumtassel::plumtassel_encode(code, message, out)
 }
@@ -42,7 +42,7 @@ pub extern "C" fn plumtassel_decode(
     message: &mut [u8],
 ) -> Answer
     ensures { (result, message.new)
-        ≡ decoded (decoding (code_of code) length symbols.now room allowance (len work.old) message.old) }
+        ≡ faced (decoding (code_of code) length symbols.now room allowance (len work.old) message.old) }
 {
     plumtassel::plumtassel_decode(code, length, symbols, room, allowance, work, message)
 }
@@ -59,8 +59,8 @@ pub extern "C" fn plumtassel_decode_sheet(
     message: &mut [u8],
     sheet: &mut [u8],
 ) -> Answer
-    ensures { (result, message.new, sheet.new)
-        ≡ sheeted (sheeting (code_of code) length symbols.now room allowance (len work.old) message.old sheet.old) }
+    ensures { (result, (message.new, sheet.new))
+        ≡ faced (sheeting (code_of code) length symbols.now room allowance (len work.old) message.old sheet.old) }
 {
     plumtassel::plumtassel_decode_sheet(
         code, length, symbols, room, allowance, work, message, sheet,
@@ -77,7 +77,7 @@ pub extern "C" fn plumtassel_check(
     message: &mut [u8],
 ) -> Answer
     ensures { (result, message.new)
-        ≡ checked (checking (code_of code) length symbols.now sheet.now message.old) }
+        ≡ faced (checking (code_of code) length symbols.now sheet.now message.old) }
 {
     plumtassel::plumtassel_check(code, length, symbols, sheet, message)
 }

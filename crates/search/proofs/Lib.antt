@@ -3,9 +3,7 @@ pub mod Fits
 pub mod Runs
 pub mod Tracing
 pub mod Halting
-pub mod Sizes
 pub mod Decodings
 pub mod Answers
 pub mod Refusals
 pub mod Refused
-pub mod Settling

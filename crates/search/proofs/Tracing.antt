@@ -6,8 +6,8 @@ use Prim.Native.Nat.{ℕ, zero, suc, ◌-◌, ◌≤◌, ◌<◌, min}
 use native.Mathlib.Omega.{arith}
 use lib.ListN.{length, drop, set, length-set, length-drop, length-reverse}
 use Rattle.trellis.specs.Trellis.{Trellis, Path, Node, top}
-use Rattle.trellis.specs.Lawful.{Lawful, message_of}
-use Rattle.trellis.specs.Search.{Row, row_at, node_at, found, Ended, searched, trace}
+use Rattle.trellis.specs.Lawful.{Lawful}
+use Rattle.trellis.specs.Search.{Row, row_at, node_at, found, Ended, searched, trace, message_of}
 use Rattle.trellis.proofs.Sharing.{Branch}
 use Rattle.trellis.proofs.Table.{Table}
 use Rattle.trellis.proofs.Trace.{parent_level, row_above}

@@ -1,4 +1,3 @@
 pub mod Limits
 pub mod Decoding
 pub mod Work
-pub mod Settling

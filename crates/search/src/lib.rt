@@ -3,5 +3,6 @@
 
 pub mod decoder;
 mod run;
+pub mod seen;
 mod step;
 pub mod trace;

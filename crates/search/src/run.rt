@@ -3,11 +3,12 @@ ghost use Rattle.std.specs.Prelude.{◌≡◌, ◌<◌};
 ghost use Rattle.trellis.specs.Trellis.{node, same};
 ghost use Rattle.trellis.specs.Search.{searched};
 ghost use Rattle.store.specs.Memory.{row_of};
-ghost use Rattle.search.specs.Work.{cap, trellis_under, Lent, Halts};
+ghost use Rattle.blocks.specs.Machines.{trellis_under};
+ghost use Rattle.search.specs.Work.{cap, Lent, Halts};
 
-use crate::decoder::DecodeError;
 use crate::step::expand;
-use blocks::branches::Block;
+use blocks::block::Block;
+use desk::Refusal;
 use store::{Held, Nodes};
 
 // The terminal where the search ended: its cost, the steps until then, the count of its least paths, and its row.
@@ -33,8 +34,8 @@ pub fn run(
     nodes: &mut Nodes<'_>,
     room: usize,
     allowance: u32,
-) -> Result<Terminal, DecodeError>
-    requires lent { Lent room nodes.old }
+) -> Result<Terminal, Refusal>
+    requires lent { Lent room nodes.old.words }
     requires some { 0 < room }
     ensures { Halts nodes.old nodes.new room result (searched (trellis_under block.now) cap room allowance) }
 {
@@ -55,9 +56,9 @@ pub fn run(
             });
         }
         if steps == allowance {
-            return Err(DecodeError::NoAllowance { steps });
+            return Err(Refusal::NoAllowance { steps });
         }
-        expand(block, nodes, room, i).map_err(|_| DecodeError::NoRoom { steps })?;
+        expand(block, nodes, room, i).map_err(|_| Refusal::NoRoom { steps })?;
         steps += 1;
     }
 }

@@ -3,9 +3,10 @@ ghost use Rattle.std.specs.Prelude.{◌≡◌, ◌<◌};
 ghost use Rattle.trellis.specs.Trellis.{allowed};
 ghost use Rattle.trellis.specs.Search.{node_at, find_row, first_open, entered, relax, expand};
 ghost use Rattle.store.specs.Memory.{row_of, Small};
-ghost use Rattle.search.specs.Work.{cap, trellis_under, Roomy, Leaving, Steppable, brought, Tries};
+ghost use Rattle.blocks.specs.Machines.{trellis_under};
+ghost use Rattle.search.specs.Work.{cap, Roomy, Leaving, Steppable, brought, Tries};
 
-use blocks::branches::Block;
+use blocks::block::Block;
 use store::{Held, Nodes};
 
 // Least paths are counted up to two.

@@ -5,7 +5,8 @@ mod given;
 
 use crate::given::{BLOCK, FAR, SHEET, TIED};
 use codes::table::house;
-use sheets::check::{CheckError, check};
+use desk::Refusal;
+use sheets::check::check;
 use show::Digits;
 use std::io;
 
@@ -49,15 +50,8 @@ fn line(rt: &impl Print, name: &str, block: &[i8], sheet: &[u8]) -> io::Result<(
     println!(rt; "{name:45}{number}, metric {metric}, message {message}")
 }
 
-// The paper's numbers: what the program prints may not change.
-fn number(answer: Result<u32, CheckError>) -> u8 {
-    match answer {
-        Ok(_) => 0,
-        Err(CheckError::BadCode) => 1,
-        Err(CheckError::BadSize) => 2,
-        Err(CheckError::Malformed) => 6,
-        Err(CheckError::NotCarried) => 7,
-    }
+fn number(answer: Result<u32, Refusal>) -> u8 {
+    answer.map_or_else(Refusal::number, |_| 0)
 }
 
 // A line for each byte: the numbers for its eight flips.

@@ -1,28 +1,31 @@
--- What acceptance proves, in the contract's own words: a sheet that `check` accepts, whoever wrote it, has the only message of least
--- metric, and the metric given is that least metric. That honest sheets are accepted is in HonestSheet. Assumes nothing.
-use mathlib.Core.Path.{◌≡◌, refl, sym, ap, ◌∙◌, subst, subst₂}
+-- What acceptance proves, in the contract's own words: a sheet that the check accepts, whoever wrote it, has the only message of least
+-- metric, and the metric given is that least metric. Once for any lawful trellis, then for the symbols of a code. That honest sheets are
+-- accepted is in HonestSheet. Assumes nothing.
+use mathlib.Core.Path.{◌≡◌, sym, ap, subst}
 use mathlib.Core.List.{List, ◌++◌}
-use mathlib.Core.Bool.{Bool, true, false}
-use Prim.Native.Nat.{ℕ, zero, suc, ◌<◌}
+use mathlib.Core.Bool.{Bool}
+use Prim.Native.Nat.{ℕ, zero, suc, ◌^◌, ◌≤◌, ◌<◌}
 use native.Mathlib.Omega.{arith}
 use lib.IntN.{ℤ}
 use lib.ListN.{length, take, drop}
 use lib.Seq.{take_at}
-use Rattle.lists.proofs.Membership.{◌∈◌, nil_out, Every, every_cons}
 use Rattle.std.specs.Prelude.{Ok}
+use Rattle.lists.proofs.Membership.{◌∈◌, nil_out, Every, every_cons}
+use Rattle.desk.specs.Desk.{Handed, told_by}
 use Rattle.codes.specs.declared.table.Code.{Code}
-use Rattle.codes.specs.Codes.{lawful}
+use Rattle.codes.specs.Codes.{lawful, branches}
 use Rattle.trellis.specs.Trellis.{Trellis}
 use Rattle.trellis.specs.Verdict.{words, messages}
-use Rattle.trellis.proofs.Messages.{words_in}
+use Rattle.trellis.specs.Lawful.{Lawful}
+use Rattle.trellis.proofs.Messages.{words_in, words_out}
 use Rattle.trellis.proofs.SheetSound.{OnlyLeast, sheet_sound}
 use Rattle.blocks.specs.Symbols.{view}
 use Rattle.blocks.specs.Blocks.{trellis_of}
 use Rattle.blocks.proofs.Closing.{trellis_lawful}
-use Rattle.sheets.specs.Bytes.{series, bit_at, sheet_read}
-use Rattle.sheets.specs.Checking.{formed, carried, Checking, handed, told, sizes_fit, checking}
+use Rattle.sheets.specs.Bytes.{Sheet, series, bit_at, sheet_read}
+use Rattle.sheets.specs.Checking.{formed, carried, told, check_desk, sizes_fit, checking}
 use Rattle.sheets.proofs.Series.{length_series}
-use Rattle.sheets.proofs.Rows.{checking_code, checking_size, checking_form, checking_claim, checking_accepted}
+use Rattle.sheets.proofs.Rows.{Passed, passed_accepted, accepted_passed}
 
 -- ---- the message is one of the messages
 
@@ -32,62 +35,49 @@ unfolding series
 every_series P zero f h = λ a m. absurd (nil_out m)
 every_series P (suc n) f h = every_cons P (h 0) (every_series P n (λ i. f (suc i)) (λ i. h (suc i)))
 
--- L bits are a message
-message_read : (c : Code) (l : ℕ) (symbols : List ℤ) (bytes : List ℕ) → (sheet_read l bytes).message ∈ messages (trellis_of c l (view symbols))
+-- L bits are a message, where a step has so many inputs
+pub message_read : (t : Trellis) → 2 ≤ t.inputs → (bytes : List ℕ) → (sheet_read t.span bytes).message ∈ messages t
 unfolding sheet_read messages
-message_read c l symbols bytes =
-    subst (λ (k : ℕ). series l (bit_at bytes) ∈ words 2 k) (length_series l (bit_at bytes))
-    (words_in 2 (series l (bit_at bytes)) (every_series (λ b. b < 2) l (bit_at bytes) (λ i. omega arith)))
+message_read t wide bytes =
+    let bits : List ℕ = series t.span (bit_at bytes) in
+    subst (λ (k : ℕ). bits ∈ words t.inputs k) (length_series t.span (bit_at bytes))
+    (words_in t.inputs bits (every_series (λ b. b < t.inputs) t.span (bit_at bytes) (λ i. omega arith)))
 
--- ---- the number 0
+-- ---- any trellis
+
+module _ {t : Trellis} (law : Lawful t) (rules sizes form : Bool) (s : Sheet) (member : s.message ∈ messages t) (message : List ℕ) where
+  -- Accepted: the bits in front of the buffer are the only message of least metric, and the metric given is that metric.
+  pub desk_sound : let answer = check_desk rules sizes form t s message in answer.reply.number ≡ 0
+      → OnlyLeast t answer.reply.metric (take t.span answer.buffers)
+  unfolding carried messages
+  desk_sound z =
+      let p : Passed rules sizes form t s message = accepted_passed rules sizes form t s message z in
+      let front : take t.span (s.message ++ drop t.span message) ≡ s.message =
+      take_at s.message (drop t.span message) t.span (words_out t.inputs t.span member).length in
+      subst (λ (h : Handed (List ℕ)). OnlyLeast t h.reply.metric (take t.span h.buffers)) (sym (passed_accepted rules sizes form t s message p))
+      (subst (OnlyLeast t s.metric) (sym front) (sheet_sound law s.entries member p.claim))
+
+  -- The same of the program's answer: where it is `Ok m`, m is the least metric and the bits written are its only message.
+  pub desk_alone : (m : ℕ) (exit : List ℕ) → told (Ok m) exit ≡ check_desk rules sizes form t s message → OnlyLeast t m (take t.span exit)
+  unfolding told_by
+  desk_alone m exit e =
+      subst (λ (h : Handed (List ℕ)). OnlyLeast t h.reply.metric (take t.span h.buffers)) (sym e)
+      (desk_sound (ap (λ (h : Handed (List ℕ)). h.reply.number) (sym e)))
+
+-- ---- symbols
 
 module _ (c : Code) (l : ℕ) (symbols : List ℤ) (bytes message : List ℕ) where
-  abbrev answer : Checking
-  answer = checking c l symbols bytes message
-
   abbrev t : Trellis
   t = trellis_of c l (view symbols)
 
-  -- all tests passed
-  pub record Passed : Type 0 where
-    pub code : lawful c ≡ true
-    pub sizes : sizes_fit c l (length symbols) (length message) ≡ true
-    pub form : formed c l bytes ≡ true
-    pub claim : carried t (sheet_read l bytes) ≡ true
-
-  -- no other answer has the number 0
-  other : (n m : ℕ) → answer ≡ handed (suc n) m message → answer.number ≡ 0 → ⊥
-  other n m e z = let k : suc n ≡ 0 = ap (λ (x : Checking). x.number) (sym e) ∙ z in omega arith
-
-  -- so an answer of number 0 passed them
-  pub accepted_passed : answer.number ≡ 0 → Passed
-  accepted_passed z =
-      go (lawful c) (sizes_fit c l (length symbols) (length message)) (formed c l bytes) (carried t (sheet_read l bytes)) refl refl refl refl
-    where
-      go : (code sizes form claim : Bool) → lawful c ≡ code → sizes_fit c l (length symbols) (length message) ≡ sizes
-          → formed c l bytes ≡ form → carried t (sheet_read l bytes) ≡ claim → Passed
-      go false sizes form claim h s f q = absurd (other 0 0 (checking_code c l symbols bytes message h) z)
-      go true false form claim h s f q = absurd (other 1 0 (checking_size c l symbols bytes message h s) z)
-      go true true false claim h s f q = absurd (other 5 0 (checking_form c l symbols bytes message h s f) z)
-      go true true true false h s f q = absurd (other 6 0 (checking_claim c l symbols bytes message h s f q) z)
-      go true true true true h s f q = record { code = h; sizes = s; form = f; claim = q }
-
   -- Accepted: the L bytes in front of the buffer are the only message of least metric, and the metric given is that metric.
-  pub check_sound : answer.number ≡ 0 → OnlyLeast t answer.metric (take l answer.message)
-  unfolding carried sheet_read
-  check_sound z =
-      let p : Passed = accepted_passed z in
-      let e : answer ≡ handed 0 (sheet_read l bytes).metric ((sheet_read l bytes).message ++ drop l message) =
-      checking_accepted c l symbols bytes message p.code p.sizes p.form p.claim in
-      subst₂ (OnlyLeast t) (ap (λ (x : Checking). x.metric) (sym e)) (sym (ap (λ (x : Checking). take l x.message) e ∙ front))
-      (sheet_sound (trellis_lawful c l (view symbols)) (sheet_read l bytes).entries (message_read c l symbols bytes) p.claim)
-    where
-      front : take l ((sheet_read l bytes).message ++ drop l message) ≡ (sheet_read l bytes).message
-      front = take_at (sheet_read l bytes).message (drop l message) l (length_series l (bit_at bytes))
+  pub check_sound : let answer = checking c l symbols bytes message in answer.reply.number ≡ 0 → OnlyLeast t answer.reply.metric (take l answer.buffers)
+  unfolding checking
+  check_sound = desk_sound (trellis_lawful c l (view symbols)) (lawful c) (sizes_fit c l (length symbols) (length message))
+      (formed l (branches c l) (2 ^ c.memory) bytes) (sheet_read l bytes) (message_read t (omega arith) bytes) message
 
   -- The same of the program's answer: where it is `Ok m`, m is the least metric and the L bytes written are its only message.
-  pub accepted_alone : (m : ℕ) (exit : List ℕ) → told (Ok m) exit ≡ answer → OnlyLeast t m (take l exit)
-  unfolding told
-  accepted_alone m exit e =
-      subst₂ (OnlyLeast t) (ap (λ (x : Checking). x.metric) (sym e)) (ap (λ (x : Checking). take l x.message) (sym e))
-      (check_sound (ap (λ (x : Checking). x.number) (sym e)))
+  pub accepted_alone : (m : ℕ) (exit : List ℕ) → told (Ok m) exit ≡ checking c l symbols bytes message → OnlyLeast t m (take l exit)
+  unfolding checking
+  accepted_alone = desk_alone (trellis_lawful c l (view symbols)) (lawful c) (sizes_fit c l (length symbols) (length message))
+      (formed l (branches c l) (2 ^ c.memory) bytes) (sheet_read l bytes) (message_read t (omega arith) bytes) message

@@ -15,30 +15,28 @@ use Rattle.lists.proofs.Tests.{true_in}
 use Rattle.lists.proofs.Membership.{◌∈◌, Every}
 use Rattle.lists.proofs.Sorted.{Sorted}
 use Rattle.lists.proofs.Decides.{Decides, said, together, whenever, equal, less, agree}
-use Rattle.codes.specs.declared.table.Code.{Code}
-use Rattle.codes.specs.Codes.{lawful}
-use Rattle.codes.proofs.Rules.{lawful_out}
-use Rattle.trellis.specs.Trellis.{Trellis, Path, Node, node, ends, along, metric, end_node}
-use Rattle.trellis.specs.Verdict.{Entry, path_of}
-use Rattle.trellis.specs.Sheet.{onto, carries}
+use Rattle.trellis.specs.Trellis.{Trellis, Path, Node, node, top, ends, along, metric, end_node}
+use Rattle.trellis.specs.Verdict.{Entry, path_of, onto}
+use Rattle.trellis.specs.Sheet.{carries}
 use Rattle.trellis.proofs.Paths.{node_path, allowed_top}
 use Rattle.trellis.proofs.Honest.{lower}
 use Rattle.trellis.proofs.Order.{mark}
 use Rattle.trellis.proofs.SheetTests.{Listed, AllBranches, Onward, Dearer, Clear, branches_test, carries_test}
 use Rattle.trellis.proofs.Parts.{parts}
-use Rattle.blocks.specs.Symbols.{Seen}
-use Rattle.blocks.specs.Blocks.{trellis_of}
-use Rattle.blocks.proofs.Closing.{input_bit}
+use Rattle.blocks.specs.Machines.{trellis_under}
+use Rattle.blocks.specs.Walks.{early, visit_at, Walked}
+use Rattle.blocks.specs.declared.block.Block.{Block}
+use Rattle.blocks.specs.declared.walk.Visit.{Visit}
+use Rattle.blocks.proofs.Walks.{length_early}
+use Rattle.blocks.proofs.Early.{early_path, parts_early, every_part}
+use Rattle.blocks.proofs.Asked.{input_below, block_span, entered, bit_input}
 use Rattle.sheets.specs.Bytes.{series, bit_at, sheet_read}
 use Rattle.sheets.specs.Checking.{rising, carried}
-use Rattle.sheets.specs.declared.path.Visit.{Visit}
-use Rattle.sheets.specs.Steps.{early, visit_at, Walked, on_path, onward, all_passing, tested}
+use Rattle.sheets.specs.Work.{on_path, goes_on, all_passing, passes}
 use Rattle.sheets.proofs.Series.{length_series}
-use Rattle.sheets.proofs.Octets.{Bits, bits_read}
+use Rattle.sheets.proofs.Octets.{bits_read}
 use Rattle.sheets.proofs.Listing.{rising_test}
 use Rattle.sheets.proofs.Costs.{equal_cost, within_cost}
-use Rattle.sheets.proofs.Walks.{length_early}
-use Rattle.sheets.proofs.Early.{early_path, parts_early, every_part, next_input}
 
 -- a test of f 0, f 1, .., each by itself
 all_series : {A : Type 0} (p : A → Bool) (P : ℕ → Type 0) (n : ℕ) (f : ℕ → A) → ((j : ℕ) → j < n → Decides (p (f j)) (P j))
@@ -54,36 +52,35 @@ all_series p P (suc n) f d =
     first h k (suc j) l = k j (omega arith)
 
 -- B for what a branch brings
-onward_test : (es : List Entry) → Sorted lower es → (m : ℕ) (a : Entry) → Decides (onward es m a) (a.cost ≤ m → Listed es a.node a.cost)
-onward_test es s m a = go (dec_le a.cost m)
+goes_on_test : (es : List Entry) → Sorted lower es → (m : ℕ) (a : Entry) → Decides (goes_on es m a) (a.cost ≤ m → Listed es a.node a.cost)
+goes_on_test es s m a = go (dec_le a.cost m)
   where
-    go : Dec (a.cost ≤ m) → Decides (onward es m a) (a.cost ≤ m → Listed es a.node a.cost)
+    go : Dec (a.cost ≤ m) → Decides (goes_on es m a) (a.cost ≤ m → Listed es a.node a.cost)
     go (yes h) = rw (le-ltb m a.cost h) (said (within_cost es s a.node a.cost) (λ l k. l) (λ l. l h))
     go (no n) = rw (lt-ltb m a.cost (omega arith)) (record { out = (λ t h. absurd (n h)); into = (λ h. tt) })
 
--- What the tests rest on: a code with a memory, rising entries, a message of bits and its path.
-record Claim (c : Code) (l : ℕ) (block : List Seen) (es : List Entry) (m : ℕ) (w : List ℕ) (path : List Visit) : Type 0 where
-  memory : 1 ≤ c.memory
+-- What the tests rest on: rising entries, a message of the block's length, and its path.
+record Claim (block : Block) (es : List Entry) (w : List ℕ) (path : List Visit) : Type 0 where
   ordered : Sorted lower es
-  bits : Bits w
-  size : length w ≡ l
-  walked : Walked (trellis_of c l block) w (l + c.memory) path
+  inputs : (i : ℕ) → get_or w i 0 < (trellis_under block).inputs
+  size : length w ≡ (trellis_under block).span
+  walked : Walked (trellis_under block) w (top (trellis_under block)) path
 
-module _ (c : Code) (l : ℕ) (block : List Seen) (es : List Entry) (m : ℕ) (w : List ℕ) (path : List Visit) (k : Claim c l block es m w path) where
+module _ (block : Block) (es : List Entry) (m : ℕ) (w : List ℕ) (path : List Visit) (k : Claim block es w path) where
   abbrev t : Trellis
-  t = trellis_of c l block
+  t = trellis_under block
 
   abbrev own : Path
-  own = early w (l + c.memory)
+  own = early w (top t)
 
   -- C: at each level the path's node is listed, its cost the metric so far
-  path_test : Decides (all (on_path es path) (series (l + c.memory + 1) (λ j. j))) (Every (λ p. mark t p ∈ es) (parts own))
+  path_test : Decides (all (on_path es path) (series (top t + 1) (λ j. j))) (Every (λ p. mark t p ∈ es) (parts own))
   path_test =
-      said (all_series (on_path es path) (λ j. mark t (early w j) ∈ es) (l + c.memory + 1) (λ j. j) (λ j h. level_test j (omega arith)))
-      (λ h. every_part (λ p. mark t p ∈ es) w (l + c.memory) (λ j h'. h j (omega arith)))
-      (λ h j h'. h (early w j) (parts_early w (l + c.memory) j (omega arith)))
+      said (all_series (on_path es path) (λ j. mark t (early w j) ∈ es) (top t + 1) (λ j. j) (λ j h. level_test j (omega arith)))
+      (λ h. every_part (λ p. mark t p ∈ es) w (top t) (λ j h'. h j (omega arith)))
+      (λ h j h'. h (early w j) (parts_early w (top t) j (omega arith)))
     where
-      level_test : (j : ℕ) → j ≤ l + c.memory → Decides (on_path es path j) (mark t (early w j) ∈ es)
+      level_test : (j : ℕ) → j ≤ top t → Decides (on_path es path j) (mark t (early w j) ∈ es)
       level_test j h =
           let here : (visit_at path j).metric ≡ metric t (early w j) = k.walked.metric_at j h in
           let there : node j (visit_at path j).state ≡ end_node t (early w j) = node_path (sym (length_early w j)) (k.walked.state_at j h) in
@@ -103,16 +100,16 @@ module _ (c : Code) (l : ℕ) (block : List Seen) (es : List Entry) (m : ℕ) (w
   entries_test : Decides (all (all_passing t es m path) es) (AllBranches t es (λ e b. Onward t m es e b × Apart e b))
   unfolding all_passing
   entries_test =
-      branches_test t es (λ e b. together (onward_test es k.ordered m (onto t e b))
+      branches_test t es (λ e b. together (goes_on_test es k.ordered m (onto t e b))
       (whenever (equal (onto t e b).node.state ((visit_at path (e.node.level + 1)).state)) (equal e.node.state ((visit_at path e.node.level).state))
       (less ((visit_at path (e.node.level + 1)).metric) (onto t e b).cost)))
 
   -- D, level by level
   clear_out : AllBranches t es Apart → Every (Clear t es) (parts own)
   unfolding early ends
-  clear_out h = every_part (Clear t es) w (l + c.memory) go
+  clear_out h = every_part (Clear t es) w (top t) go
     where
-      step : (i : ℕ) → suc i ≤ l + c.memory → AllBranches t es (Dearer t (get_or w i 0) (early w i))
+      step : (i : ℕ) → suc i ≤ top t → AllBranches t es (Dearer t (get_or w i 0) (early w i))
       step i le e member b u enters apart =
           let level : e.node.level ≡ i = suc_inj (ap (λ (x : Node). x.level) enters) ∙ length_early w i in
           let before : (visit_at path e.node.level).state ≡ ends t (early w i) = ap (λ (x : ℕ). (visit_at path x).state) level ∙ k.walked.state_at i (omega arith) in
@@ -120,11 +117,11 @@ module _ (c : Code) (l : ℕ) (block : List Seen) (es : List Entry) (m : ℕ) (w
           let paid : (visit_at path (e.node.level + 1)).metric ≡ metric t (early w (suc i)) = next_place (λ v. v.metric) level ∙ k.walked.metric_at (suc i) le in
           let state : (onto t e b).node.state ≡ ends t (early w (suc i)) = ap (λ (x : Node). x.state) enters in
           let same_input : e.node.state ≡ ends t (early w i) → b ≡ get_or w i 0 =
-          λ q. next_input c.memory b (get_or w i 0) e.node.state k.memory (input_bit c l block e.node.level b u) (k.bits i)
+          λ q. entered block e.node.state b (get_or w i 0) (input_below block e.node.level b u) (k.inputs i)
           (state ∙ ap (λ (x : ℕ). t.next x (get_or w i 0)) (sym q)) in
           omega (arith, h e member b u (state ∙ sym after) (λ q. apart (q ∙ before, same_input (q ∙ before))))
 
-      go : (j : ℕ) → j ≤ l + c.memory → Clear t es (early w j)
+      go : (j : ℕ) → j ≤ top t → Clear t es (early w j)
       go zero le = tt
       go (suc i) le = step i le
 
@@ -133,25 +130,25 @@ module _ (c : Code) (l : ℕ) (block : List Seen) (es : List Entry) (m : ℕ) (w
   unfolding early
   clear_in h e member b u enters apart =
       let i : ℕ = e.node.level in
-      let left : i < l + c.memory = allowed_top t i b u in
+      let left : i < top t = allowed_top t i b u in
       let before : (visit_at path i).state ≡ ends t (early w i) = k.walked.state_at i (omega arith) in
       let after : (visit_at path (i + 1)).state ≡ ends t (early w (suc i)) = next_place (λ v. v.state) refl ∙ k.walked.state_at (suc i) left in
       let paid : (visit_at path (i + 1)).metric ≡ metric t (early w (suc i)) = next_place (λ v. v.metric) refl ∙ k.walked.metric_at (suc i) left in
       omega (
         arith,
-        h (early w (suc i)) (parts_early w (l + c.memory) (suc i) left) e member b u
+        h (early w (suc i)) (parts_early w (top t) (suc i) left) e member b u
             (node_path (ap suc (sym (length_early w i))) (enters ∙ after)) (λ q. apart (q.0 ∙ sym before)),
       )
 
   -- For the check: its tests are the conditions.
-  claim_tests : carries t m es (path_of t w) ≡ tested t es m path (l + c.memory)
-  unfolding tested early ends along
+  claim_tests : carries t m es (path_of t w) ≡ passes t es m path
+  unfolding passes early ends along
   claim_tests =
       ap (carries t m es) (sym (early_path t w k.size))
       ∙ agree (carries_test t m es own)
-      (said (together (together path_test (equal ((visit_at path (l + c.memory)).metric) m)) entries_test)
+      (said (together (together path_test (equal ((visit_at path (top t)).metric) m)) entries_test)
       (λ h. record {
-        begun = h.0.0 [] (parts_early w (l + c.memory) 0 (omega arith));
+        begun = h.0.0 [] (parts_early w (top t) 0 (omega arith));
         onward = (λ e x b u. (h.1 e x b u).0);
         listed = h.0.0;
         paid = sym whole ∙ h.0.1;
@@ -159,21 +156,19 @@ module _ (c : Code) (l : ℕ) (block : List Seen) (es : List Entry) (m : ℕ) (w
       })
       (λ q. ((q.listed, whole ∙ q.paid), λ e x b u. (q.onward e x b u, clear_in q.clear e x b u))))
     where
-      whole : (visit_at path (l + c.memory)).metric ≡ metric t own
-      whole = k.walked.metric_at (l + c.memory) (omega arith)
+      whole : (visit_at path (top t)).metric ≡ metric t own
+      whole = k.walked.metric_at (top t) (omega arith)
 
 -- The same for a sheet of good form that was read off bytes.
-pub carried_tests : (c : Code) (l : ℕ) (block : List Seen) (bytes : List ℕ) (path : List Visit) → lawful c ≡ true
-    → rising (sheet_read l bytes).entries ≡ true
-    → Walked (trellis_of c l block) (sheet_read l bytes).message (l + c.memory) path
-    → carried (trellis_of c l block) (sheet_read l bytes)
-    ≡ tested (trellis_of c l block) (sheet_read l bytes).entries (sheet_read l bytes).metric path (l + c.memory)
+pub carried_tests : (block : Block) (bytes : List ℕ) (path : List Visit) → let s = sheet_read block.bits bytes in rising s.entries ≡ true
+    → Walked (trellis_under block) s.message (top (trellis_under block)) path
+    → carried (trellis_under block) s ≡ passes (trellis_under block) s.entries s.metric path
 unfolding carried sheet_read
-carried_tests c l block bytes path h r w =
-    claim_tests c l block (sheet_read l bytes).entries (sheet_read l bytes).metric (sheet_read l bytes).message path (record {
-      memory = (lawful_out c h).memory_least;
-      ordered = (rising_test (sheet_read l bytes).entries).out (true_in (rising (sheet_read l bytes).entries) r);
-      bits = bits_read bytes l;
-      size = length_series l (bit_at bytes);
+carried_tests block bytes path r w =
+    let s = sheet_read block.bits bytes in
+    claim_tests block s.entries s.metric s.message path (record {
+      ordered = (rising_test s.entries).out (true_in (rising s.entries) r);
+      inputs = (λ i. bit_input block (get_or s.message i 0) (bits_read bytes block.bits i));
+      size = length_series block.bits (bit_at bytes) ∙ sym (block_span block);
       walked = w;
     })

@@ -18,7 +18,7 @@ use Rattle.trellis.proofs.Paths.{same_equality}
 use Rattle.trellis.proofs.Order.{earlier_order, entry_path}
 use Rattle.trellis.proofs.Honest.{lower}
 use Rattle.trellis.proofs.SheetTests.{Listed}
-use Rattle.sheets.specs.Steps.{listed_cost, some_and}
+use Rattle.sheets.specs.Work.{listed_cost, some_and}
 
 -- how it goes on, where it is known if the first entry is the node's
 cost_here : (e : Entry) (es : List Entry) (x : Node) → e.node ≡ x → listed_cost (e ∷ es) x ≡ Some e.cost

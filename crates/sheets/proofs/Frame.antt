@@ -14,8 +14,8 @@ use Rattle.codes.specs.Limits.{shortest_message, longest_message}
 use Rattle.trellis.specs.Verdict.{Entry}
 use Rattle.sheets.specs.Bytes.{series, bytes_of, kind, message_size, octet, message_bytes, entry_bytes, following, sheet_bytes}
 use Rattle.sheets.specs.Bytes.{number_at, count_place, message_place, entries_place, bit_at, entry_at, sheet_read}
-use Rattle.sheets.specs.Checking.{alike, framed}
-use Rattle.sheets.specs.Steps.{sheet_size}
+use Rattle.sheets.specs.Checking.{same_bytes, framed}
+use Rattle.sheets.specs.Work.{sheet_size}
 use Rattle.sheets.proofs.Series.{length_series, series_same, series_stands}
 use Rattle.sheets.proofs.Numbers.{Bytes, number_stands, number_at_below}
 use Rattle.sheets.proofs.Octets.{used, octet_read}
@@ -24,12 +24,12 @@ use Rattle.sheets.proofs.Written.{length_following, length_sheet_bytes, message_
 -- ---- the same bytes
 
 -- the test of bytes decides their equality
-pub alike_test : (xs ys : List ℕ) → Decides (alike xs ys) (xs ≡ ys)
-unfolding alike
-alike_test [] [] = record { out = (λ h. refl); into = (λ e. tt) }
-alike_test [] (y ∷ ys) = record { out = (λ h. absurd h); into = (λ e. let z : ◌≡◌ {A = ℕ} 0 1 = cc in absurd (omega arith)) }
-alike_test (x ∷ xs) [] = record { out = (λ h. absurd h); into = (λ e. let z : ◌≡◌ {A = ℕ} 0 1 = cc in absurd (omega arith)) }
-alike_test (x ∷ xs) (y ∷ ys) = said (together (equal x y) (alike_test xs ys)) (λ h. λ z. h.0 z ∷ h.1 z) (λ e. (cc, cc))
+pub same_bytes_test : (xs ys : List ℕ) → Decides (same_bytes xs ys) (xs ≡ ys)
+unfolding same_bytes
+same_bytes_test [] [] = record { out = (λ h. refl); into = (λ e. tt) }
+same_bytes_test [] (y ∷ ys) = record { out = (λ h. absurd h); into = (λ e. let z : ◌≡◌ {A = ℕ} 0 1 = cc in absurd (omega arith)) }
+same_bytes_test (x ∷ xs) [] = record { out = (λ h. absurd h); into = (λ e. let z : ◌≡◌ {A = ℕ} 0 1 = cc in absurd (omega arith)) }
+same_bytes_test (x ∷ xs) (y ∷ ys) = said (together (equal x y) (same_bytes_test xs ys)) (λ h. λ z. h.0 z ∷ h.1 z) (λ e. (cc, cc))
 
 -- ---- the frame
 
@@ -77,7 +77,7 @@ pub counted : (l : ℕ) (bytes : List ℕ) → length (sheet_read l bytes).entri
 unfolding sheet_read
 counted l bytes = length_series (number_at 2 count_place bytes) _
 
-module _ (l : ℕ) (bytes : List ℕ) (b : Bytes bytes) (some : 1 ≤ l) (short : l < 65536) where
+module _ (l : ℕ) (bytes : List ℕ) (b : Bytes bytes) (some : shortest_message ≤ l) (span : l ≤ longest_message) where
   -- what is written in front of the message: the length field
   follow_back : number_at 4 0 (sheet_bytes l (sheet_read l bytes)) + 4 ≡ sheet_size l (number_at 2 count_place bytes)
   unfolding sheet_bytes bytes_of number_at
@@ -177,8 +177,8 @@ module _ (l : ℕ) (bytes : List ℕ) (b : Bytes bytes) (some : 1 ≤ l) (short 
   -- For the check of the form.
   pub framed_test : Decides (framed l bytes) (Framed l bytes)
   unfolding framed
-  framed_test = said (alike_test (sheet_bytes l (sheet_read l bytes)) bytes) frame_out frame_in
+  framed_test = said (same_bytes_test (sheet_bytes l (sheet_read l bytes)) bytes) frame_out frame_in
 
--- for a program that goes on after the test
-pub framed_out : (l : ℕ) (bytes : List ℕ) → Bytes bytes → shortest_message ≤ l → l ≤ longest_message → framed l bytes ≡ true → Framed l bytes
-framed_out l bytes b some span h = (framed_test l bytes b some (omega arith)).out (true_in (framed l bytes) h)
+  -- for a program that goes on after the test
+  pub framed_out : framed l bytes ≡ true → Framed l bytes
+  framed_out h = framed_test.out (true_in (framed l bytes) h)

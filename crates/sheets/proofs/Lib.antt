@@ -5,9 +5,7 @@ pub mod Written
 pub mod Frame
 pub mod Listing
 pub mod Costs
-pub mod Walks
 pub mod Inputs
-pub mod Early
 pub mod Claims
 pub mod Rows
 pub mod Pinned

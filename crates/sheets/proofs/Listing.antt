@@ -21,7 +21,7 @@ use Rattle.trellis.proofs.Honest.{lower}
 use Rattle.trellis.proofs.Listing.{no_entry}
 use Rattle.sheets.specs.Bytes.{series, number_at, count_place, entries_place, entry_at, sheet_read}
 use Rattle.sheets.specs.Checking.{rising}
-use Rattle.sheets.specs.Steps.{Counted, entries_in}
+use Rattle.sheets.specs.Work.{Counted, entries_in}
 use Rattle.sheets.proofs.Series.{series_same}
 use Rattle.sheets.proofs.Numbers.{number_at_drop}
 

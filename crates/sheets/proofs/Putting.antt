@@ -8,7 +8,7 @@ use lib.ListN.{length}
 use lib.Seq.{sets}
 use Rattle.lists.proofs.Writing.{sets_append}
 use Rattle.sheets.specs.Bytes.{Sheet, bytes_of, message_size, octet, message_place, entries_place, message_bytes, entry_bytes, following, sheet_bytes}
-use Rattle.sheets.specs.Steps.{sheet_size, head_bytes}
+use Rattle.sheets.specs.Work.{sheet_size, head_bytes}
 use Rattle.sheets.proofs.Series.{length_series}
 use Rattle.sheets.proofs.Written.{length_following}
 

@@ -1,12 +1,13 @@
--- Laws of f 0, f 1, .., f (n - 1): its length, its places, when two are equal, and that bytes which hold it place by place hold it.
--- Assumes nothing.
-use mathlib.Core.Path.{◌≡◌, refl, ap, ap₂, ◌∙◌}
+-- Laws of f 0, f 1, .., f (n - 1): its length, its places, when two are equal, that bytes which hold it place by place hold it, and a loop
+-- that writes it. Assumes nothing.
+use mathlib.Core.Path.{◌≡◌, refl, sym, ap, ap₂, ◌∙◌}
 use mathlib.Core.List.{List, ◌∷◌, ◌++◌}
 use Prim.Native.Nat.{ℕ, zero, suc, ◌+◌, ◌≤◌, ◌<◌}
 use native.Mathlib.Nat.{le_of_suc-le-suc}
 use native.Mathlib.Omega.{arith}
-use lib.ListN.{length, get_or, drop, get_or-eq_default}
-use lib.Seq.{drop-cons}
+use lib.ListN.{length, get_or, set, drop, get_or-eq_default}
+use lib.Seq.{drop-cons, sets}
+use Rattle.lists.proofs.Writing.{Filling, filling_next, filling_done}
 use Rattle.sheets.specs.Bytes.{series}
 
 module _ {A : Type 0} where
@@ -45,3 +46,12 @@ module _ {A : Type 0} where
       (λ i k. (let e : suc at + i ≡ at + suc i = omega arith in ap (λ (j : ℕ). get_or l j d) e) ∙ h (suc i) (omega arith)) in
       let e : suc at + n ≡ at + suc n = omega arith in
       drop-cons l at d (omega arith) ∙ ap₂ (λ (x : A) (t : List A). x ∷ t) here (rest ∙ ap (λ (k : ℕ). series n (λ i. f (suc i)) ++ drop k l) e)
+
+  module _ (n : ℕ) (f : ℕ → A) {first : List A} {at : ℕ} {l : List A} {j : ℕ} where
+    -- for a loop that writes f j at its turn j
+    pub series_filled : (d : A) {x : A} → x ≡ f j → j < n → Filling first (series n f) at l j → Filling first (series n f) at (set l (at + j) x) (j + 1)
+    series_filled d e h w = rw (e ∙ sym (get_or_series n f j d h)) (filling_next d (omega (arith, length_series n f)) w)
+
+    -- and its end
+    pub series_written : n ≤ j → Filling first (series n f) at l j → l ≡ sets first at (series n f)
+    series_written h w = filling_done (omega (arith, length_series n f)) w

@@ -12,7 +12,7 @@ use Rattle.trellis.proofs.Paths.{node_path}
 use Rattle.trellis.proofs.Order.{entry_path}
 use Rattle.sheets.specs.Bytes.{Sheet, series, bytes_of, message_size, octet, message_bytes, entry_bytes, following, sheet_bytes}
 use Rattle.sheets.specs.Bytes.{number_at, metric_place, count_place, message_place, entries_place, bit_at, entry_at, sheet_read}
-use Rattle.sheets.specs.Steps.{sheet_size}
+use Rattle.sheets.specs.Work.{sheet_size}
 use Rattle.sheets.proofs.Series.{length_series, get_or_series, series_same}
 use Rattle.sheets.proofs.Numbers.{number_at_drop}
 use Rattle.sheets.proofs.Octets.{Bits, octet_bit}

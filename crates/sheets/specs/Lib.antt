@@ -1,3 +1,3 @@
 pub mod Bytes
 pub mod Checking
-pub mod Steps
+pub mod Work

@@ -1,23 +1,18 @@
-// The claim of a sheet of good form: the conditions A to D.
+// The claim of a sheet of good form: the conditions A to D, for a block as it was seen.
 ghost use Rattle.codes.specs.Limits.{shortest_message};
-ghost use Rattle.std.specs.Prelude.{◌≡◌, true, ◌+◌, ◌<◌, ◌≤◌, eqb, length, length as len};
+ghost use Rattle.std.specs.Prelude.{◌≡◌, true, ◌+◌, ◌<◌, ◌≤◌, eqb, length};
 ghost use Rattle.lists.specs.Lists.{all};
-ghost use Rattle.trellis.specs.Trellis.{node, allowed};
+ghost use Rattle.trellis.specs.Trellis.{node, top, allowed};
 ghost use Rattle.trellis.specs.Verdict.{entry};
-ghost use Rattle.blocks.specs.Packed.{seen_in};
-ghost use Rattle.blocks.specs.Symbols.{view};
-ghost use Rattle.blocks.specs.Blocks.{trellis_of};
+ghost use Rattle.blocks.specs.Machines.{states_of, trellis_under};
 ghost use Rattle.sheets.specs.Bytes.{series, sheet_read};
-ghost use Rattle.sheets.specs.Checking.{in_trellis, formed, carried};
-ghost use Rattle.sheets.specs.Steps.{entries_in, listed_cost, some_and, on_path, onward, clear, passing, all_passing, tested, Branching, Checkable};
+ghost use Rattle.sheets.specs.Checking.{inside, carried};
+ghost use Rattle.sheets.specs.Work.{formed_for, entries_in, listed_cost, some_and, on_path, goes_on, clear, passing, all_passing, passes, Branching};
 
 use crate::entries::{Entry, Node, entries_of, listed};
 use crate::form::Head;
-use crate::path::{LONGEST_PATH, ORIGIN, Visit, walk};
-use blocks::branches::Block;
-use blocks::view::see;
-use codes::limits::LONGEST_BLOCK;
-use codes::table::Machine;
+use blocks::block::Block;
+use blocks::walk::{LONGEST_PATH, ORIGIN, Visit, walk};
 
 // A block as it was seen, and what a sheet claims of it: the metric, the entries, and the visits of the message's path.
 #[derive(Clone, Copy)]
@@ -26,14 +21,14 @@ struct Claim<'a> {
     metric: u64,
     entries: &'a [[u8; 8]],
     path: &'a [Visit],
-    ghost sound: { Branching block.machine.code block.bits entries.now path.now },
+    ghost sound: { Branching (trellis_under block) (states_of block.machine) entries.now path.now },
 }
 
 impl Claim<'_> {
     // All tests of a claim. A is C at the origin.
+    #[tactic(auto, using(std::proofs::lemmas::Bool::Decides::nat_tests), unfolding(crate::specs::Work::passes))]
     fn passes(&self) -> bool
-        ensures { result ≡ tested (trellis_of self.now.block.machine.code self.now.block.bits (seen_in self.now.block.seen.now))
-            (entries_in self.now.entries.now) self.now.metric self.now.path.now (self.now.block.bits + self.now.block.machine.code.memory) }
+        ensures { result ≡ passes (trellis_under self.now.block) (entries_in self.now.entries.now) self.now.metric self.now.path.now }
     {
         let top = self.block.top() as usize;
         self.path_listed() && self.path[top].metric == self.metric && self.entries_pass()
@@ -42,7 +37,7 @@ impl Claim<'_> {
     // C: whether each node of the path is listed, its cost the metric so far.
     fn path_listed(&self) -> bool
         ensures { result ≡ all (on_path (entries_in self.now.entries.now) self.now.path.now)
-            (series (self.now.block.bits + self.now.block.machine.code.memory + 1) (λ j. j)) }
+            (series (top (trellis_under self.now.block) + 1) (λ j. j)) }
     {
         self.path
             .iter()
@@ -64,7 +59,7 @@ impl Claim<'_> {
     // B and D for every branch of every entry.
     fn entries_pass(&self) -> bool
         ensures { result
-            ≡ all (all_passing (trellis_of self.now.block.machine.code self.now.block.bits (seen_in self.now.block.seen.now)) (entries_in self.now.entries.now)
+            ≡ all (all_passing (trellis_under self.now.block) (entries_in self.now.entries.now)
             self.now.metric self.now.path.now) (entries_in self.now.entries.now) }
     {
         self.entries
@@ -73,10 +68,11 @@ impl Claim<'_> {
     }
 
     // B and D for every branch of an entry. Tried as `(0..inputs).all(..)`: the whole check took a quarter longer.
+    #[tactic(auto, using(crate::proofs::Inputs::below_next, crate::proofs::Inputs::below_fails), unfolding(lists::specs::Lists::all, lists::specs::Lists::below, crate::specs::Work::all_passing))]
     fn branches_pass(&self, from: Entry) -> bool
-        requires { in_trellis self.now.block.machine.code self.now.block.bits (entry from.cost from.node.level from.node.state) ≡ true }
+        requires { inside (top (trellis_under self.now.block)) (states_of self.now.block.machine) (entry from.cost from.node.level from.node.state) ≡ true }
         ensures { result
-            ≡ all_passing (trellis_of self.now.block.machine.code self.now.block.bits (seen_in self.now.block.seen.now)) (entries_in self.now.entries.now)
+            ≡ all_passing (trellis_under self.now.block) (entries_in self.now.entries.now)
             self.now.metric self.now.path.now (entry from.cost from.node.level from.node.state) }
     {
         let inputs = self.block.allowed(from.node.level);
@@ -89,11 +85,12 @@ impl Claim<'_> {
     }
 
     // B and D for the branch of an entry with an input.
+    #[tactic(auto, using(blocks::proofs::Asked::input_below, crate::proofs::Inputs::inside_out))]
     fn branch_passes(&self, from: Entry, input: u64) -> bool
-        requires inside { in_trellis self.now.block.machine.code self.now.block.bits (entry from.cost from.node.level from.node.state) ≡ true }
-        requires input { input < allowed (trellis_of self.now.block.machine.code self.now.block.bits (seen_in self.now.block.seen.now)) from.node.level }
+        requires inside { inside (top (trellis_under self.now.block)) (states_of self.now.block.machine) (entry from.cost from.node.level from.node.state) ≡ true }
+        requires input { input < allowed (trellis_under self.now.block) from.node.level }
         ensures { result
-            ≡ passing (trellis_of self.now.block.machine.code self.now.block.bits (seen_in self.now.block.seen.now)) (entries_in self.now.entries.now)
+            ≡ passing (trellis_under self.now.block) (entries_in self.now.entries.now)
             self.now.metric self.now.path.now (entry from.cost from.node.level from.node.state) input }
     {
         let Node { level, state } = from.node;
@@ -107,7 +104,7 @@ impl Claim<'_> {
 
     // B for a branch to a node at a cost in all, which may be any sum of two numbers of 32 bits.
     fn goes_on(&self, to: Node, total: u64) -> bool
-        ensures { result ≡ onward (entries_in self.now.entries.now) self.now.metric (entry total to.level to.state) }
+        ensures { result ≡ goes_on (entries_in self.now.entries.now) self.now.metric (entry total to.level to.state) }
     {
         self.metric < total || listed(self.entries, to).is_some_and(|cost| cost as u64 <= total)
     }
@@ -123,15 +120,16 @@ impl Claim<'_> {
     }
 }
 
-// Whether a sheet of good form carries its claim for a block as it was seen.
-fn holds(block: &Block<'_>, sheet: &[u8]) -> bool
+// Whether a sheet of good form carries its claim for a block, where the bits of its message were read.
+pub fn carries(block: &Block<'_>, sheet: &[u8], message: &[u8]) -> bool
     requires some { shortest_message ≤ block.now.bits }
-    requires form { formed block.now.machine.code block.now.bits sheet.now ≡ true }
-    ensures { result ≡ carried (trellis_of block.now.machine.code block.now.bits (seen_in block.now.seen.now)) (sheet_read block.now.bits sheet.now) }
+    requires form { formed_for block.now sheet.now ≡ true }
+    requires own { message.now ≡ (sheet_read block.now.bits sheet.now).message }
+    ensures { result ≡ carried (trellis_under block.now) (sheet_read block.now.bits sheet.now) }
 {
     // Fixed memory, no heap: room for the longest path.
     let mut path = [ORIGIN; LONGEST_PATH];
-    walk(block, sheet, &mut path);
+    walk(block, message, &mut path);
     let top = block.top() as usize;
     let claim = Claim {
         block: *block,
@@ -140,16 +138,4 @@ fn holds(block: &Block<'_>, sheet: &[u8]) -> bool
         path: &path[..top + 1],
     };
     claim.passes()
-}
-
-// Whether a sheet of good form carries its claim.
-pub fn carries(machine: Machine, length: usize, symbols: &[i8], sheet: &[u8]) -> bool
-    requires { Checkable machine.code length (len symbols.now) sheet.now }
-    ensures { result ≡ carried (trellis_of machine.code length (view symbols.now)) (sheet_read length sheet.now) }
-{
-    // Fixed memory, no heap: room for the longest block.
-    let mut seen = [0u16; LONGEST_BLOCK];
-    see(symbols, &mut seen);
-    let block = Block::new(machine, length as u64, &seen[..symbols.len()]);
-    holds(&block, sheet)
 }

@@ -1,10 +1,10 @@
 // The entries of a sheet, eight bytes each, and what they say of a node.
-ghost use Rattle.std.specs.Prelude.{◌≡◌, true, ◌&&◌, leb, ltb};
+ghost use Rattle.std.specs.Prelude.{◌≡◌, true};
 ghost use Rattle.lists.specs.Lists.{all};
 ghost use Rattle.trellis.specs.Trellis.{node};
 ghost use Rattle.sheets.specs.Bytes.{sheet_read};
-ghost use Rattle.sheets.specs.Checking.{rising};
-ghost use Rattle.sheets.specs.Steps.{Counted, entries_in, entry_said, listed_cost};
+ghost use Rattle.sheets.specs.Checking.{rising, inside};
+ghost use Rattle.sheets.specs.Work.{Counted, entries_in, entry_said, listed_cost};
 
 use crate::bytes::bytes_at;
 use crate::form::entries_place;
@@ -60,7 +60,7 @@ pub fn rise(entries: &[[u8; 8]]) -> bool
 
 // Whether every level is at most the top and every state below the number of states.
 pub fn inside(entries: &[[u8; 8]], top: u64, states: u64) -> bool
-    ensures { result ≡ all (λ e. leb e.node.level top && ltb e.node.state states) (entries_in entries.now) }
+    ensures { result ≡ all (inside top states) (entries_in entries.now) }
 {
     entries.iter().all(|bytes| {
         let node = Entry::read(bytes).node;

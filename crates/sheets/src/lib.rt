@@ -6,5 +6,5 @@ pub mod check;
 mod claim;
 mod entries;
 mod form;
-mod path;
 pub mod put;
+pub mod seen;

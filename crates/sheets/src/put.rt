@@ -7,7 +7,7 @@ ghost use Rattle.codes.specs.Encoding.{is_bit};
 ghost use Rattle.trellis.specs.Verdict.{entry};
 ghost use Rattle.sheets.specs.Bytes.{message_size, octet, message_bytes, entry_bytes, message_place, entries_place};
 ghost use Rattle.sheets.specs.Checking.{most_entries};
-ghost use Rattle.sheets.specs.Steps.{sheet_size, head_bytes, Puttable};
+ghost use Rattle.sheets.specs.Work.{sheet_size, head_bytes, Puttable};
 
 use crate::bytes::put_bytes;
 use crate::form::{

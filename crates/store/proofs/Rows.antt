@@ -10,7 +10,8 @@ use lib.ListN.{length, set, length-append, length-set, get_or-append}
 use lib.Seq.{get_or_at, get_or-set_same, get_or-set_other, ext_get_or}
 use Rattle.trellis.specs.Search.{Row, no_row, row_at}
 use Rattle.store.specs.declared.Held.{Held}
-use Rattle.store.specs.Memory.{row_of, Small, order_word, rest_word, row_from, order_at, rest_at, rows_of, written, Shown, showing}
+use Rattle.store.specs.Limits.{words_per_node}
+use Rattle.store.specs.Memory.{row_of, Small, order_word, rest_word, row_from, words_at, order_at, rest_at, rows_of, written, Shown, showing}
 use Rattle.store.proofs.Words.{row_from_words}
 
 -- ---- the memory as it is
@@ -47,26 +48,28 @@ rows_of_same work other (suc n) f =
 module _ (work : List ℕ) (i : ℕ) (r : Held) where
   -- the memory with the order word alone written
   abbrev half : List ℕ
-  half = set work (3 * i) (order_word r)
+  half = set work (words_at i) (order_word r)
 
   -- the length stays
   pub length_written : length (written work i r) ≡ length work
   length_written = simp length-set
 
   -- the row is the one written
-  written_here : 3 * (i + 1) ≤ length work → Small r → row_in (written work i r) i ≡ row_of r
+  written_here : words_per_node * (i + 1) ≤ length work → Small r → row_in (written work i r) i ≡ row_of r
   written_here room s =
       ap₂ row_from
-      (get_or-set_other half (3 * i + 1) (3 * i) (rest_word r) 0 (omega arith) ∙ get_or-set_same work (3 * i) (order_word r) 0 (omega arith))
-      (get_or-set_same half (3 * i + 1) (rest_word r) 0 (omega (arith, length-set work (3 * i) (order_word r))))
+      (get_or-set_other half (words_at i + 1) (words_at i) (rest_word r) 0 (omega arith) ∙ get_or-set_same work (words_at i) (order_word r) 0 (omega arith))
+      (get_or-set_same half (words_at i + 1) (rest_word r) 0 (omega (arith, length-set work (words_at i) (order_word r))))
       ∙ row_from_words r s
 
   -- and no other changes
   written_others : (k : ℕ) → (k ≡ i → ⊥) → row_in (written work i r) k ≡ row_in work k
   written_others k d =
       ap₂ row_from
-      (get_or-set_other half (3 * i + 1) (3 * k) (rest_word r) 0 (omega arith) ∙ get_or-set_other work (3 * i) (3 * k) (order_word r) 0 (omega arith))
-      (get_or-set_other half (3 * i + 1) (3 * k + 1) (rest_word r) 0 (omega arith) ∙ get_or-set_other work (3 * i) (3 * k + 1) (order_word r) 0 (omega arith))
+      (get_or-set_other half (words_at i + 1) (words_at k) (rest_word r) 0 (omega arith)
+      ∙ get_or-set_other work (words_at i) (words_at k) (order_word r) 0 (omega arith))
+      (get_or-set_other half (words_at i + 1) (words_at k + 1) (rest_word r) 0 (omega arith)
+      ∙ get_or-set_other work (words_at i) (words_at k + 1) (order_word r) 0 (omega arith))
 
 -- what a caller sees, by its parts
 abbrev shown_as : ℕ → List Row → Shown
@@ -77,7 +80,7 @@ abbrev pub shown : List ℕ → ℕ → Shown
 shown work n = shown_as (length work) (rows_of work n)
 
 -- for a change of row i
-pub set_shows : (work : List ℕ) (n i : ℕ) (r : Held) → 3 * n ≤ length work → i < n → Small r
+pub set_shows : (work : List ℕ) (n i : ℕ) (r : Held) → words_per_node * n ≤ length work → i < n → Small r
     → shown (written work i r) n ≡ showing (shown work n) (set (rows_of work n) i (row_of r))
 set_shows work n i r room h small =
     ap₂ shown_as
@@ -98,7 +101,7 @@ set_shows work n i r room h small =
         ∙ sym (get_or-set_other (rows_of work n) i k (row_of r) no_row d ∙ row_at_rows_of work n k l)
 
 -- for a row more
-pub added_shows : (work : List ℕ) (n : ℕ) (r : Held) → 3 * (n + 1) ≤ length work → Small r
+pub added_shows : (work : List ℕ) (n : ℕ) (r : Held) → words_per_node * (n + 1) ≤ length work → Small r
     → shown (written work n r) (n + 1) ≡ showing (shown work n) (rows_of work n ++ (row_of r ∷ []))
 unfolding rows_of
 added_shows work n r room small =

@@ -3,7 +3,7 @@
 use mathlib.Core.Path.{◌≡◌, ap, ◌∙◌}
 use mathlib.Core.Logic.{◌⊎◌, inl, inr}
 use mathlib.Core.Bool.{Bool, true, false, cond}
-use Prim.Native.Nat.{ℕ, ◌+◌, ◌*◌, ◌/◌, ◌%◌, ◌^◌, ◌<◌}
+use Prim.Native.Nat.{ℕ, ◌+◌, ◌*◌, ◌/◌, ◌%◌, ◌<◌}
 use native.Mathlib.Omega.{arith}
 use lib.Dec.{eqb, ltb}
 use borrow.Author.Tests.{eq-eqb, ne_eqb}
@@ -13,34 +13,34 @@ use Rattle.trellis.specs.Trellis.{node, same}
 use Rattle.trellis.specs.Verdict.{entry, earlier, before}
 use Rattle.trellis.proofs.Order.{Earlier, earlier_in, earlier_out, Before, before_in, before_out}
 use Rattle.store.specs.declared.Held.{Held}
-use Rattle.store.specs.Memory.{row_of, Small, states, levels, nodes, order_word, rest_word, entry_from, row_from}
+use Rattle.store.specs.Memory.{row_of, Small, states, levels, nodes, counts, inputs, parents, count_place, input_place, parent_place, order_word, rest_word, entry_from, row_from}
 
 -- ---- packed and taken apart
 
 -- the last bit of the other word is one bit
-bit_small : (b : Bool) → cond b 1 0 < 2
+bit_small : (b : Bool) → cond b 1 0 < count_place
 bit_small true = omega arith
 bit_small false = omega arith
 
 -- and is read as it was written
-bit_back : (p i c : ℕ) (b : Bool) → eqb ((p * 131072 + i * 512 + c * 2 + cond b 1 0) % 2) 1 ≡ b
-bit_back p i c true = eq-eqb ((p * 131072 + i * 512 + c * 2 + 1) % 2) 1 (omega arith)
-bit_back p i c false = ne_eqb ((p * 131072 + i * 512 + c * 2 + 0) % 2) 1 (omega arith)
+bit_back : (p i c : ℕ) (b : Bool) → eqb ((p * parent_place + i * input_place + c * count_place + cond b 1 0) % count_place) 1 ≡ b
+bit_back p i c true = eq-eqb ((p * parent_place + i * input_place + c * count_place + 1) % count_place) 1 (omega arith)
+bit_back p i c false = ne_eqb ((p * parent_place + i * input_place + c * count_place + 0) % count_place) 1 (omega arith)
 
 -- what was written is read
 pub row_from_words : (r : Held) → Small r → row_from (order_word r) (rest_word r) ≡ row_of r
 unfolding row_from
 row_from_words r s =
-    let bit : cond r.closed 1 0 < 2 = bit_small r.closed in
+    let bit : cond r.closed 1 0 < count_place = bit_small r.closed in
     let cost : order_word r / nodes ≡ r.cost = omega arith in
     let level : order_word r / states % levels ≡ r.level = omega arith in
     let state : order_word r % states ≡ r.state = omega arith in
-    let count : rest_word r / 2 % 256 ≡ r.count = omega arith in
-    let high : rest_word r / 131072 ≡ r.parent = omega arith in
-    let fits : r.parent % 8192 ≡ r.parent = omega arith in
-    let parent : rest_word r / 131072 % 8192 ≡ r.parent = ap (λ (x : ℕ). x % 8192) high ∙ fits in
-    let input : rest_word r / 512 % 256 ≡ r.input = omega arith in
-    let closed : eqb (rest_word r % 2) 1 ≡ r.closed = bit_back r.parent r.input r.count r.closed in
+    let count : rest_word r / count_place % counts ≡ r.count = omega arith in
+    let high : rest_word r / parent_place ≡ r.parent = omega arith in
+    let fits : r.parent % parents ≡ r.parent = omega arith in
+    let parent : rest_word r / parent_place % parents ≡ r.parent = ap (λ (x : ℕ). x % parents) high ∙ fits in
+    let input : rest_word r / input_place % inputs ≡ r.input = omega arith in
+    let closed : eqb (rest_word r % count_place) 1 ≡ r.closed = bit_back r.parent r.input r.count r.closed in
     λ z. record { entry = entry (cost z) (level z) (state z); count = count z; parent = parent z; input = input z; closed = closed z }
 
 -- ---- compared
@@ -100,7 +100,7 @@ module _ (a b : ℕ) where
       number_in h (inr (inr l)) = absurd (omega arith)
 
 -- so that level and every bit of the state are one comparison
-pub same_words : (order level state : ℕ) → level < 2 ^ 10 → state < 2 ^ 16
+pub same_words : (order level state : ℕ) → level < levels → state < states
     → same (entry_from order).node (node level state) ≡ eqb (order % nodes) (level * states + state)
 same_words order level state h k =
     agree

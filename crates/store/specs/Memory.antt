@@ -3,6 +3,7 @@
 use Rattle.std.specs.Prelude.{List, [], ◌∷◌, ◌++◌, cond, ℕ, zero, suc, ◌+◌, ◌*◌, ◌/◌, ◌%◌, ◌^◌, ◌<◌, eqb, ltb, Option, Some, None, length, get_or, set}
 use Rattle.trellis.specs.Verdict.{Entry, entry}
 use Rattle.trellis.specs.Search.{Row}
+use Rattle.store.specs.Limits.{words_per_node}
 use Rattle.store.specs.declared.Held.{Held}
 
 -- ---- a row
@@ -17,15 +18,6 @@ row_of r = record {
   closed = r.closed;
 }
 
--- a row that the words can hold
-pub record Small (r : Held) : Type 0 where
-  pub cost : r.cost < 2 ^ 38
-  pub level : r.level < 2 ^ 10
-  pub state : r.state < 2 ^ 16
-  pub count : r.count < 2 ^ 8
-  pub parent : r.parent < 2 ^ 13
-  pub input : r.input < 2 ^ 8
-
 -- ---- its words
 
 -- how many states and levels an order word tells apart, and how many nodes in all
@@ -38,13 +30,46 @@ levels = 1024
 abbrev pub nodes : ℕ
 nodes = 67108864
 
+-- how many counts, inputs and parents a rest word tells apart
+abbrev pub counts : ℕ
+counts = 256
+
+abbrev pub inputs : ℕ
+inputs = 256
+
+abbrev pub parents : ℕ
+parents = 8192
+
+-- and where each of them begins: above the bit of a closed row, above the counts, above the inputs
+abbrev pub count_place : ℕ
+count_place = 2
+
+abbrev pub input_place : ℕ
+input_place = 512
+
+abbrev pub parent_place : ℕ
+parent_place = 131072
+
+-- and how many costs stand above a node in its word
+abbrev pub costs : ℕ
+costs = 2 ^ 38
+
+-- a row that the words can hold
+pub record Small (r : Held) : Type 0 where
+  pub cost : r.cost < costs
+  pub level : r.level < levels
+  pub state : r.state < states
+  pub count : r.count < counts
+  pub parent : r.parent < parents
+  pub input : r.input < inputs
+
 -- The order word: cost, level and state as one number. Two of them compare as cost, then level, then state do.
 abbrev pub order_word : Held → ℕ
 order_word r = r.cost * nodes + r.level * states + r.state
 
 -- The other word: parent, input and count, and in the last bit whether the row is closed.
 abbrev pub rest_word : Held → ℕ
-rest_word r = r.parent * 131072 + r.input * 512 + r.count * 2 + cond r.closed 1 0
+rest_word r = r.parent * parent_place + r.input * input_place + r.count * count_place + cond r.closed 1 0
 
 -- the node and its cost that an order word holds
 abbrev pub entry_from : ℕ → Entry
@@ -54,21 +79,25 @@ entry_from order = entry (order / nodes) (order / states % levels) (order % stat
 unfoldable pub row_from : ℕ → ℕ → Row
 row_from order rest = record {
   entry = entry_from order;
-  count = rest / 2 % 256;
-  parent = rest / 131072 % 8192;
-  input = rest / 512 % 256;
-  closed = eqb (rest % 2) 1;
+  count = rest / count_place % counts;
+  parent = rest / parent_place % parents;
+  input = rest / input_place % inputs;
+  closed = eqb (rest % count_place) 1;
 }
 
 -- ---- the memory
 
--- Three words a row: the order, the rest, and one that is free.
+-- where the words of row i begin: the order, the rest, and one that is free
+abbrev pub words_at : ℕ → ℕ
+words_at i = words_per_node * i
+
+-- the order word of row i
 abbrev pub order_at : List ℕ → ℕ → ℕ
-order_at work i = get_or work (3 * i) 0
+order_at work i = get_or work (words_at i) 0
 
 -- the other word of row i
 abbrev pub rest_at : List ℕ → ℕ → ℕ
-rest_at work i = get_or work (3 * i + 1) 0
+rest_at work i = get_or work (words_at i + 1) 0
 
 -- the first n rows
 unfoldable pub rows_of : List ℕ → ℕ → List Row
@@ -77,7 +106,7 @@ rows_of work (suc n) = rows_of work n ++ (row_from (order_at work n) (rest_at wo
 
 -- the memory with the words of row i written
 abbrev pub written : List ℕ → ℕ → Held → List ℕ
-written work i r = set (set work (3 * i) (order_word r)) (3 * i + 1) (rest_word r)
+written work i r = set (set work (words_at i) (order_word r)) (words_at i + 1) (rest_word r)
 
 -- ---- what callers see
 

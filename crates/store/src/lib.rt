@@ -1,14 +1,18 @@
-// Nodes in lent memory: found, added, lowered, joined, closed, the first open one taken, the closed ones listed. Three words a row
-// (specs/Memory).
+// Nodes in lent memory: found, added, lowered, joined, closed, the first open one taken, the closed ones listed. What the words of a row
+// hold stands in specs/Memory.
 #![tactic(auto)]
 
-ghost use Rattle.std.specs.Prelude.{◌≡◌, ◌+◌, ◌*◌, ◌^◌, ◌≤◌, ◌<◌, ℕ, List, [], length, set};
+ghost use Rattle.std.specs.Prelude.{◌≡◌, ◌+◌, ◌*◌, ◌≤◌, ◌<◌, Bool, ℕ, [], length, set};
 ghost use Rattle.trellis.specs.Trellis.{node};
-ghost use Rattle.trellis.specs.Search.{Row, row_at, node_at, started, find_row, first_open, next_closed, added, lowered, joined, closed};
-ghost use Rattle.store.specs.Memory.{row_of, Small, order_word, rest_word, order_at, rest_at, written, rows_of, showing, found_at};
-ghost use Rattle.store.specs.Scan.{FindsLeast, open_key, next_key};
+ghost use Rattle.trellis.specs.Search.{Row, row_at, node_at, started, find_row, first_by, first_open, next_closed, added, lowered, joined, closed};
+ghost use Rattle.store.specs.Limits.{words_per_node};
+ghost use Rattle.store.specs.Memory.{row_of, Small, states, levels, counts, order_word, rest_word, order_at, rest_at, written, rows_of, showing, found_at};
+ghost use Rattle.store.specs.Scan.{Keyed, open_key, next_key};
 
 use std::marker::Model;
+
+// How many words of the memory a node takes: two are used, and one is free.
+pub const WORDS_PER_NODE: usize = 3;
 
 // How many states a level of the words has, how many levels, and how many nodes in all.
 const STATES: u64 = 65536;
@@ -16,6 +20,20 @@ const STATES: u64 = 65536;
 const LEVELS: u64 = 1024;
 
 const NODES: u64 = 67108864;
+
+// How many counts, inputs and parents the other word tells apart.
+const COUNTS: u64 = 256;
+
+const INPUTS: u64 = 256;
+
+const PARENTS: u64 = 8192;
+
+// And where each of them begins: above the bit of a closed row, above the counts, above the inputs.
+const COUNT_PLACE: u64 = 2;
+
+const INPUT_PLACE: u64 = 512;
+
+const PARENT_PLACE: u64 = 131072;
 
 // A row of the memory: a node with its cost so far, how many paths of that cost were found up to the cap, the index of the row before
 // it and the input between them, and whether it was expanded. (That it is small stands in clauses and is no ghost field: with it each write
@@ -31,8 +49,7 @@ pub struct Held {
     pub closed: bool,
 }
 
-// The nodes that a search has met, in lent memory of three words a node. (Words with a count, and indices for links: the memory is lent and
-// fixed, no heap.)
+// The nodes that a search has met, in lent memory. (Words with a count, and indices for links: the memory is lent and fixed, no heap.)
 #[derive(Drop)]
 pub struct Nodes<'a> {
     words: &'a mut [u64],
@@ -41,13 +58,14 @@ pub struct Nodes<'a> {
 
 impl<'a> Model for Nodes<'a> {
     ghost use Rattle.std.specs.Prelude.{◌*◌, ◌≤◌, length};
+    ghost use Rattle.store.specs.Limits.{words_per_node};
     ghost use Rattle.store.specs.Memory.{Shown, rows_of};
 
     ghost Value = { Shown };
 
     ghost view = { λ s. record { words = length s.words.now; rows = rows_of s.words.now s.count } };
 
-    ghost invariant = { λ s. 3 * s.count ≤ length s.words.now };
+    ghost invariant = { λ s. words_per_node * s.count ≤ length s.words.now };
 }
 
 #[tactic(auto, using(crate::proofs::Rows::length_rows_of))]
@@ -62,7 +80,7 @@ impl<'a> Nodes<'a> {
     // How many rows there are.
     pub fn len(&self) -> usize
         ensures count { result ≡ length self.now.rows }
-        ensures room { 3 * length self.now.rows ≤ self.now.words }
+        ensures room { words_per_node * length self.now.rows ≤ self.now.words }
     {
         let Nodes { count, .. } = self;
         *count
@@ -77,7 +95,7 @@ impl<'a> Nodes<'a> {
 
     // The origin alone, whatever stood there.
     pub fn start(&mut self)
-        requires { 3 ≤ self.old.words }
+        requires { words_per_node ≤ self.old.words }
         ensures { self.new ≡ showing self.old started }
     {
         let origin = Held {
@@ -104,24 +122,24 @@ impl<'a> Nodes<'a> {
             cost: order / NODES,
             level: order / STATES % LEVELS,
             state: order % STATES,
-            count: rest / 2 % 256,
-            parent: rest / 131072 % 8192,
-            input: rest / 512 % 256,
-            closed: rest % 2 == 1,
+            count: rest / COUNT_PLACE % COUNTS,
+            parent: rest / PARENT_PLACE % PARENTS,
+            input: rest / INPUT_PLACE % INPUTS,
+            closed: rest % COUNT_PLACE == 1,
         }
     }
 
     // The index of a node's row.
     #[tactic(auto, using(crate::proofs::Rows::length_rows_of, crate::proofs::Scans::finding_stop, crate::proofs::Scans::finding_next))]
     pub fn find(&self, level: u64, state: u64) -> Option<usize>
-        requires level { level < 2 ^ 10 }
-        requires state { state < 2 ^ 16 }
+        requires level { level < levels }
+        requires state { state < states }
         ensures { result ≡ found_at self.now.rows (find_row (node level state) self.now.rows) }
     {
         let wanted = level * STATES + state;
         for i in 0..self.count {
             // The order word alone: `get`, which reads both, makes this scan slower.
-            let order = self.words[3 * i];
+            let order = self.words[WORDS_PER_NODE * i];
             if order % NODES == wanted {
                 return Some(i);
             }
@@ -135,7 +153,7 @@ impl<'a> Nodes<'a> {
     {
         let key = |order: u64, rest: u64| -> Option<u64>
             ensures { result ≡ open_key order rest }
-        { (rest % 2 != 1).then_some(order) };
+        { (rest % COUNT_PLACE != 1).then_some(order) };
         least(self.words, self.count, key)
     }
 
@@ -151,7 +169,7 @@ impl<'a> Nodes<'a> {
         {
             let number = order % NODES;
             // Tried as `then_some`: a decode with its sheet took a third longer.
-            if rest % 2 == 1 && last < number {
+            if rest % COUNT_PLACE == 1 && last < number {
                 Some(number)
             } else {
                 None
@@ -162,7 +180,7 @@ impl<'a> Nodes<'a> {
 
     // A row more at the end.
     pub fn add(&mut self, r: Held)
-        requires room { 3 * (length self.old.rows + 1) ≤ self.old.words }
+        requires room { words_per_node * (length self.old.rows + 1) ≤ self.old.words }
         requires small { Small r }
         ensures { self.new ≡ showing self.old (added self.old.rows (row_of r)) }
     {
@@ -183,8 +201,8 @@ impl<'a> Nodes<'a> {
     // So many more paths of the same cost to the node of row i, stopped at the cap.
     pub fn join(&mut self, i: usize, cap: u64, more: u64)
         requires index { i < length self.old.rows }
-        requires cap { cap < 2 ^ 8 }
-        requires more { more < 2 ^ 8 }
+        requires cap { cap < counts }
+        requires more { more < counts }
         ensures { self.new ≡ showing self.old (joined cap self.old.rows i more) }
     {
         let mut r = self.row(i);
@@ -216,10 +234,10 @@ impl<'a> Nodes<'a> {
 // The index of the row whose words have the least key, of equal ones the first. Rows without a key are passed over. (This and the next two
 // take the slice and no `Nodes`: a clause of a method cannot name its fields.)
 fn least<F: Fn(u64, u64) -> Option<u64>>(work: &[u64], n: usize, key: F) -> Option<usize>
-    requires room { 3 * n ≤ length work.now }
+    requires room { words_per_node * n ≤ length work.now }
     requires callable { F.IsAlwaysCallable key }
-    ensures { (f : List Row → ℕ) → FindsLeast (F.post key) f
-        → result ≡ found_at (rows_of work.now n) (f (rows_of work.now n)) }
+    ensures { (eligible : Row → Bool) (ahead : Row → Row → Bool) → Keyed (F.post key) eligible ahead
+        → result ≡ found_at (rows_of work.now n) (first_by eligible ahead (rows_of work.now n)) }
 {
     // None is n until the end. Tried as an `Option`: a whole decode took a third longer.
     let mut best = n;
@@ -238,22 +256,22 @@ fn least<F: Fn(u64, u64) -> Option<u64>>(work: &[u64], n: usize, key: F) -> Opti
 
 // Reads the two words of row i.
 fn get(work: &[u64], i: usize) -> (u64, u64)
-    requires { 3 * (i + 1) ≤ length work.now }
+    requires { words_per_node * (i + 1) ≤ length work.now }
     ensures { result ≡ (order_at work.now i, rest_at work.now i) }
 {
-    (work[3 * i], work[3 * i + 1])
+    (work[WORDS_PER_NODE * i], work[WORDS_PER_NODE * i + 1])
 }
 
 // Writes the two words of row i.
 fn put(work: &mut [u64], i: usize, r: Held)
-    requires room { 3 * (i + 1) ≤ length work.old }
+    requires room { words_per_node * (i + 1) ≤ length work.old }
     requires small { Small r }
     ensures { work.new ≡ written work.old i r }
 {
     let order = order_word(r);
     let rest = rest_word(r);
-    work[3 * i] = order;
-    work[3 * i + 1] = rest;
+    work[WORDS_PER_NODE * i] = order;
+    work[WORDS_PER_NODE * i + 1] = rest;
 }
 
 // Two order words compare as cost, then level, then state do. No `From`, here and for the other word: it could not ask that the row is small.
@@ -269,6 +287,6 @@ fn rest_word(r: Held) -> u64
     requires { Small r }
     ensures { result ≡ rest_word r }
 {
-    let even = r.parent * 131072 + r.input * 512 + r.count * 2;
+    let even = r.parent * PARENT_PLACE + r.input * INPUT_PLACE + r.count * COUNT_PLACE;
     if r.closed { even + 1 } else { even }
 }

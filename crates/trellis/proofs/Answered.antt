@@ -1,5 +1,5 @@
--- The answer in the reader's words: a verdict is an answer exactly if one message alone has the least metric, E is at most B and D(E)
--- at most R; then it carries that message, its metric and E. Assumes nothing.
+-- Law 9, the answer in the reader's words: a verdict is an answer exactly if one message alone has the least metric, E is at most B and
+-- D(E) at most R; then it carries that message, its metric and E. Assumes nothing.
 use mathlib.Core.Path.{◌≡◌, refl, sym, ap, ◌∙◌, subst}
 use mathlib.Core.Logic.{◌⊎◌, inl, inr}
 use mathlib.Core.List.{List, [], ◌∷◌}

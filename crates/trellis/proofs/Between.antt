@@ -1,6 +1,6 @@
--- Between two steps: what holds of the rows when all branches of the closed nodes are taken. The origin alone is such a table; its
--- first open row is the next ranked node, with as many least paths as its count says; there is one until the terminal is closed.
--- The step itself is in Expand. Assumes nothing.
+-- For law 8, between two steps: what holds of the rows when all branches of the closed nodes are taken. The origin alone is such a table;
+-- its first open row is the next ranked node, with as many least paths as its count says; there is one until the terminal is closed. The
+-- step itself is in Expand. Assumes nothing.
 use mathlib.Core.Path.{◌≡◌, refl, sym, ap, ◌∙◌, subst}
 use mathlib.Core.Logic.{◌⊎◌, inl, inr}
 use mathlib.Core.List.{List, [], ◌∷◌, ◌++◌}
@@ -14,8 +14,7 @@ use Rattle.lists.specs.Lists.{keep}
 use Rattle.lists.proofs.Membership.{◌∈◌, nil_out, member_cast, take_out, Kept, keep_in, keep_out}
 use Rattle.lists.proofs.Unique.{keep_unique}
 use Rattle.trellis.specs.Trellis.{Trellis, terminal}
-use Rattle.trellis.specs.Verdict.{Entry, entry, priced, before, ranked, met}
-use Rattle.trellis.specs.Sheet.{onto}
+use Rattle.trellis.specs.Verdict.{Entry, entry, priced, before, ranked, met, onto}
 use Rattle.trellis.specs.Search.{Row, row_at, entry_at, node_at, cost_at, started, first_open}
 use Rattle.trellis.specs.Safe.{Attained}
 use Rattle.trellis.proofs.Paths.{Reached, node_path}
@@ -25,7 +24,7 @@ use Rattle.trellis.proofs.Ranked.{Priced, ranked_out}
 use Rattle.trellis.proofs.Step.{AtMost, at_most_before, Closed, Offered, Frontier, all_closed}
 use Rattle.trellis.proofs.Step.{ranked_after, next_exact, next_ranked}
 use Rattle.trellis.proofs.Sharing.{Branch, branch, lands, Fits, LeastBranches, shared, starting, total, sharing_total}
-use Rattle.trellis.proofs.Rows.{First, first_open_is}
+use Rattle.trellis.proofs.Scan.{First, first_open_is}
 use Rattle.trellis.proofs.Table.{alike, alike_equality, arriving, ways, Covered, Table, Taken}
 use Rattle.trellis.proofs.Trace.{row_attained}
 use Rattle.trellis.proofs.RowsMet.{rows_met}
@@ -139,20 +138,25 @@ module _ {t : Trellis} {cap room j : ℕ} {rows : List Row} (inv : Between t cap
 
 -- ---- the first open row
 
--- z, in row i, is the next ranked node: its cost is right, and its count is that of its least paths
+-- z, in row i, is open and the next ranked node: its cost is right, and its count is that of its least paths
 pub record Next (t : Trellis) (cap j i : ℕ) (rows : List Row) : Type 0 where
+  pub live : (row_at rows i).closed ≡ false
   pub grows : take (suc j) (ranked t) ≡ take j (ranked t) ++ (entry_at rows i ∷ [])
   pub known : Priced t (entry_at rows i)
   pub counted : (row_at rows i).count ≡ min cap (shared t (entry_at rows i))
 
-module _ {t : Trellis} {cap room j i : ℕ} {rows : List Row} (inv : Between t cap room j rows) (f : First rows i) (h : i < length rows) where
+module _ {t : Trellis} {cap room j i : ℕ} {rows : List Row} (inv : Between t cap room j rows) (f : i ≡ first_open rows) (h : i < length rows) where
   -- the entry of row i
   abbrev z : Entry
   z = entry_at rows i
 
+  -- what the scan says of it
+  scan : First rows i
+  scan = rw f (first_open_is rows)
+
   -- it is open, and no open row is before it
   z_open : OpenRow rows z
-  z_open = record { row = i; within = h; live = f.live h; equal = refl }
+  z_open = record { row = i; within = h; live = scan.here h; equal = refl }
 
   z_least : (e : Entry) → OpenRow rows e → AtMost z e
   z_least e o = subst (λ (u : Entry). AtMost z u) o.equal (go (before_order.total z (entry_at rows o.row)))
@@ -161,7 +165,7 @@ module _ {t : Trellis} {cap room j i : ℕ} {rows : List Row} (inv : Between t c
           → AtMost z (entry_at rows o.row)
       go (inl b) = inr b
       go (inr (inl e)) = inl e
-      go (inr (inr b)) = absurd (f.least o.row o.within o.live b)
+      go (inr (inr b)) = absurd (scan.least o.row o.within o.live b)
 
   -- the taken branches that bring z its cost are all that do
   least_branches : LeastBranches t z (arriving t inv.taken z)
@@ -197,6 +201,7 @@ module _ {t : Trellis} {cap room j i : ℕ} {rows : List Row} (inv : Between t c
       let F = frontier_rows inv in
       let p : Priced t z = next_exact F z z_open z_least in
       record {
+        live = scan.here h;
         grows = next_ranked F z z_open z_least;
         known = p;
         counted = inv.table.counted i h ∙ ap (min cap) (sym (sharing_total p least_branches));

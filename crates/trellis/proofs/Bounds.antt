@@ -1,5 +1,5 @@
--- How large a metric can be: at most the sum, over its levels, of any bound on the prices there (law 6, last part).
--- It is at least 0 as every number here is. What the bound is of a code and a block is not here. Assumes nothing.
+-- Law 6, bounds: a metric is at most the sum, over its levels, of any bound on the prices there. It is at least 0 as every number here is.
+-- What the bound is of a code and a block is not here. Assumes nothing.
 use mathlib.Core.Path.{◌≡◌}
 use mathlib.Core.Logic.{◌⊎◌, inl, inr}
 use Prim.Native.Nat.{ℕ, zero, suc, ◌+◌, ◌*◌, ◌≤◌, ◌<◌}

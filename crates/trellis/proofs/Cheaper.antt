@@ -1,6 +1,6 @@
--- A node's successor can stand BEFORE the node in the order, where another way to it is cheaper: here is one, by computation, in a
--- trellis whose tail closes every path. So the search's argument goes by what a branch brings (Order, Ranked) and not by the
--- successor's own cost. Assumes nothing.
+-- Law 2, what it does not say: a node's successor can stand BEFORE the node in the order, where another way to it is cheaper. Here is one,
+-- by computation, in a trellis whose tail closes every path. So the search's argument goes by what a branch brings (Order, Ranked) and not
+-- by the successor's own cost. Assumes nothing.
 use mathlib.Core.Path.{◌≡◌, refl}
 use mathlib.Core.List.{◌∷◌, [], flat_map}
 use mathlib.Core.Bool.{true, cond}

@@ -1,5 +1,5 @@
--- The cost of a node is the least metric of the paths that end there, and some path has it (law 1).
--- The same by predecessors is in Recurrence. Assumes nothing.
+-- Law 1, cost: the cost of a node is the least metric of the paths that end there, and some path has it. The same by predecessors is in
+-- Recurrence. Assumes nothing.
 use mathlib.Core.Path.{◌≡◌, refl, sym}
 use mathlib.Core.List.{List, [], map}
 use Prim.Native.Nat.{ℕ, ◌≤◌}

@@ -1,5 +1,5 @@
--- What becomes of an arrival: a row is lowered, joined or left, or one is added, or there is no room. First as equations, for who
--- made the tests and goes on; then as cases, for who splits a proof on them. Assumes nothing.
+-- For law 8: what becomes of an arrival: a row is lowered, joined or left, or one is added, or there is no room. First as equations, for
+-- who made the tests and goes on; then as cases, for who splits a proof on them. Assumes nothing.
 use mathlib.Core.Path.{◌≡◌}
 use mathlib.Core.List.{List}
 use mathlib.Core.Bool.{true, false}
@@ -9,7 +9,7 @@ use native.Mathlib.Omega.{arith}
 use borrow.Author.Tests.{lt-ltb, le-ltb, eq-eqb, ne_eqb}
 use lib.ListN.{length}
 use Rattle.trellis.specs.Search.{Row, node_at, cost_at, find_row, added, lowered, joined, Tried, entered}
-use Rattle.trellis.proofs.Rows.{RowOf, find_row_is}
+use Rattle.trellis.proofs.Scan.{RowOf, find_row_is}
 
 -- ---- where the tests are known
 
@@ -75,4 +75,4 @@ entered_is cap room rows a = go (find_row a.entry.node rows) (find_row_is a.entr
 
     go : (k : ℕ) → RowOf a.entry.node rows k → Dec (k < length rows) → Entered cap room rows a (entered cap room rows a k)
     go k f (yes h) = known k h (f.here h) (dec_lt a.entry.cost (cost_at rows k)) (ℕ_discrete a.entry.cost (cost_at rows k))
-    go k f (no h) = new k (omega arith) (λ i m q. f.none i (omega arith) q) (dec_lt (length rows) room)
+    go k f (no h) = new k (omega arith) (λ i m q. h (f.some i m q)) (dec_lt (length rows) room)

@@ -1,4 +1,4 @@
--- One step of the search: closing the first open row, then taking its branches, leads from between two steps to between the next
+-- For law 8, one step of the search: closing the first open row, then taking its branches, leads from between two steps to between the next
 -- two, or the room is smaller than D there. Assumes nothing.
 use mathlib.Core.Path.{◌≡◌, refl, sym, ap, ap₂, ◌∙◌, subst}
 use mathlib.Core.Logic.{◌⊎◌, inl, inr}
@@ -10,14 +10,13 @@ use native.Mathlib.Omega.{arith}
 use lib.ListN.{length, take, length-set}
 use Rattle.lists.proofs.Membership.{◌∈◌, here, singleton_out, append_out, append_left, append_right, member_cast}
 use Rattle.trellis.specs.Trellis.{Trellis, terminal, allowed}
-use Rattle.trellis.specs.Verdict.{Entry, priced, ranked, met}
-use Rattle.trellis.specs.Sheet.{onto}
-use Rattle.trellis.specs.Search.{Row, row_at, entry_at, node_at, shut, closed, Tried, relax, onward, fan, expand}
+use Rattle.trellis.specs.Verdict.{Entry, priced, ranked, met, onto}
+use Rattle.trellis.specs.Search.{Row, row_at, entry_at, node_at, first_open, shut, closed, Tried, relax, onward, fan, expand}
 use Rattle.trellis.proofs.Cost.{cost_computed}
 use Rattle.trellis.proofs.Order.{entry_path}
 use Rattle.trellis.proofs.Step.{Closed}
 use Rattle.trellis.proofs.Sharing.{Branch, Fits, shared}
-use Rattle.trellis.proofs.Rows.{Changed, set_changed, First}
+use Rattle.trellis.proofs.Rows.{Changed, set_changed}
 use Rattle.trellis.proofs.Table.{ways, Link, Stored, Covered, Table, Taken}
 use Rattle.trellis.proofs.Relax.{From, Amid, Going, relax_going}
 use Rattle.trellis.proofs.Between.{Between, Next, open_apart, between_next}
@@ -65,7 +64,7 @@ shut_row rows i k h l = go (ℕ_discrete k i)
           chosen = (λ c. inr (ap (λ (u : Row). u.closed) (sym q) ∙ c));
         }
 
-module _ {t : Trellis} {cap room j i : ℕ} {rows : List Row} (inv : Between t cap room j rows) (h : i < length rows) (live : (row_at rows i).closed ≡ false)
+module _ {t : Trellis} {cap room j i : ℕ} {rows : List Row} (inv : Between t cap room j rows) (h : i < length rows)
     (next : Next t cap j i rows) (off : node_at rows i ≡ terminal t → ⊥) where
   abbrev z : Entry
   z = entry_at rows i
@@ -153,7 +152,7 @@ module _ {t : Trellis} {cap room j i : ℕ} {rows : List Row} (inv : Between t c
     sources = (λ f m. old (inv.all.sources f m));
     fits = inv.all.fits;
     new = (λ f m p.
-        open_apart inv i h live
+        open_apart inv i h next.live
         (member_cast (entry_path (sym (cost_computed next.known)) refl) (member_cast (sym p.0) (inv.all.sources f m))));
     full = (λ f m u. full' f u (split f.source m));
   }
@@ -237,8 +236,8 @@ fan_going {t} {cap} {room} {i = i} (suc left) {b = b} {rows = rows} inv e =
 
 -- THE SEARCH'S STEP: the first open row, if it is not the terminal's, is closed and all of its branches are taken
 pub expand_going : {t : Trellis} {cap room j i : ℕ} {rows : List Row}
-    → Between t cap room j rows → First rows i → i < length rows → (node_at rows i ≡ terminal t → ⊥)
+    → Between t cap room j rows → i ≡ first_open rows → i < length rows → (node_at rows i ≡ terminal t → ⊥)
     → Going (Between t cap room (suc j)) (room < met t (suc j)) (expand t cap room i rows)
 unfolding expand
 expand_going {t} {i = i} {rows = rows} inv f h off =
-    fan_going (allowed t (node_at rows i).level) (closed_amid inv h (f.live h) (between_next inv f h) off) (omega arith)
+    fan_going (allowed t (node_at rows i).level) (closed_amid inv h (between_next inv f h) off) (omega arith)

@@ -1,5 +1,5 @@
--- The search at its end: where the first open row is the terminal's, its cost is the least metric, its count is how many messages
--- share it, stopped at the cap, its trace is a least path, the steps are E, and the outcome read as a verdict is the decided one.
+-- For law 8, the search at its end: where the first open row is the terminal's, its cost is the least metric, its count is how many
+-- messages share it, stopped at the cap, its trace is a least path, the steps are E, and the outcome read as a verdict is the decided one.
 -- Assumes nothing.
 use mathlib.Core.Path.{◌≡◌, sym, ap, ◌∙◌, subst}
 use mathlib.Core.List.{List, [], ◌∷◌}
@@ -13,14 +13,13 @@ use lib.ListN.{length}
 use Rattle.lists.proofs.Membership.{◌∈◌, only_member}
 use Rattle.trellis.specs.Trellis.{Trellis, Path, Node, top, terminal}
 use Rattle.trellis.specs.Verdict.{steps, least_metric, least_messages, answered, tied, decided}
-use Rattle.trellis.specs.Lawful.{Lawful, message_of}
-use Rattle.trellis.specs.Search.{Row, row_at, entry_at, node_at, cost_at, found, trace, read}
+use Rattle.trellis.specs.Lawful.{Lawful}
+use Rattle.trellis.specs.Search.{Row, row_at, entry_at, node_at, cost_at, first_open, found, trace, read, message_of}
 use Rattle.trellis.specs.Safe.{Attains}
 use Rattle.trellis.proofs.Cost.{Cost, LeastPaths, least_paths}
 use Rattle.trellis.proofs.Messages.{least_metric_is, least_messages_length, decided_answered, decided_tied}
 use Rattle.trellis.proofs.MetNodes.{steps_at}
 use Rattle.trellis.proofs.Sharing.{sharing}
-use Rattle.trellis.proofs.Rows.{First}
 use Rattle.trellis.proofs.Trace.{trace_attains}
 use Rattle.trellis.proofs.Between.{Between, Next, between_next}
 
@@ -36,7 +35,7 @@ pub record Right (t : Trellis) (cap : ℕ) (rows : List Row) (metric done count 
   pub traced : Attains t (record { cost = metric; node = terminal t }) (trace rows (top t) i)
 
 module _ {t : Trellis} (law : Lawful t) {cap room j i : ℕ} {rows : List Row} (inv : Between t cap room j rows)
-    (f : First rows i) (h : i < length rows) (e : node_at rows i ≡ terminal t) where
+    (f : i ≡ first_open rows) (h : i < length rows) (e : node_at rows i ≡ terminal t) where
   -- what is known of the terminal's row: the next ranked node, at the terminal's cost, and the path that its trace is
   next : Next t cap j i rows
   next = between_next inv f h

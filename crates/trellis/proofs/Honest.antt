@@ -1,4 +1,4 @@
--- The honest sheet: exactly the reachable nodes of cost at most M, with their costs, strictly sorted by level, then state; the
+-- Law 7, the honest sheet: exactly the reachable nodes of cost at most M, with their costs, strictly sorted by level, then state; the
 -- terminal is among them where M is its cost. That it carries its claim is in SheetComplete. Assumes nothing.
 use mathlib.Core.Path.{◌≡◌, refl, subst, sym}
 use mathlib.Core.List.{List, map}

@@ -1,5 +1,5 @@
--- The honest sheet of the least metric M has the first E + 1 ranked nodes, the terminal the last of them, and nothing else: so a
--- search that ends at the terminal has met them all. Where the rows hold them is in HonestRows. Assumes nothing.
+-- Laws 7 and 8: the honest sheet of the least metric M has the first E + 1 ranked nodes, the terminal the last of them, and nothing else:
+-- so a search that ends at the terminal has met them all. Where the rows hold them is in HonestRows. Assumes nothing.
 use mathlib.Core.Path.{◌≡◌, refl, sym, ap, ◌∙◌, subst}
 use mathlib.Core.Logic.{◌⊎◌, inl, inr}
 use mathlib.Core.List.{[], ◌∷◌, ◌++◌}

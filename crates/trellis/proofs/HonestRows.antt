@@ -1,5 +1,5 @@
--- The rows that a search leaves at the terminal, its row closed too, hold the honest sheet: the closed rows' entries are the sheet's,
--- each node once, so there are no more of them than rows. In which order they come is in Listing. Assumes nothing.
+-- Laws 7 and 8: the rows that a search leaves at the terminal, its row closed too, hold the honest sheet: the closed rows' entries are the
+-- sheet's, each node once, so there are no more of them than rows. In which order they come is in Listing. Assumes nothing.
 use mathlib.Core.Path.{◌≡◌, sym, ap, ◌∙◌}
 use mathlib.Core.Logic.{◌⊎◌, inl, inr}
 use mathlib.Core.List.{List, [], ◌∷◌, ◌++◌, map}
@@ -19,7 +19,7 @@ use Rattle.trellis.specs.Search.{Row, no_row, row_at, entry_at, node_at, cost_at
 use Rattle.trellis.proofs.Messages.{terminal_reached}
 use Rattle.trellis.proofs.MetNodes.{front_unique, ranked_met, steps_few}
 use Rattle.trellis.proofs.HonestRanked.{honest_front, front_honest, length_honest}
-use Rattle.trellis.proofs.Rows.{Changed, set_changed, First, first_open_unique}
+use Rattle.trellis.proofs.Rows.{Changed, set_changed}
 use Rattle.trellis.proofs.Table.{Stored}
 use Rattle.trellis.proofs.Between.{Between, between_next}
 use Rattle.trellis.proofs.Found.{found_right}
@@ -34,7 +34,7 @@ pub record Holds (sheet : List Entry) (rows : List Row) : Type 0 where
   pub stored : (e : Entry) → e ∈ sheet → Stored rows e
 
 module _ {t : Trellis} (law : Lawful t) {cap room j i : ℕ} {rows : List Row} (inv : Between t cap room j rows)
-    (f : First rows i) (h : i < length rows) (e : node_at rows i ≡ terminal t) where
+    (f : i ≡ first_open rows) (h : i < length rows) (e : node_at rows i ≡ terminal t) where
   abbrev after : List Row
   after = closed rows i
 
@@ -80,7 +80,7 @@ module _ {t : Trellis} (law : Lawful t) {cap room j i : ℕ} {rows : List Row} (
       stored' x (inl m) = go (inv.table.stored x m)
         where
           apart : (s : Stored rows x) → s.row ≡ i → ⊥
-          apart s q = true≢false (sym s.shut ∙ ap (λ (k : ℕ). (row_at rows k).closed) q ∙ f.live h)
+          apart s q = true≢false (sym s.shut ∙ ap (λ (k : ℕ). (row_at rows k).closed) q ∙ (between_next inv f h).live)
 
           go : Stored rows x → Stored after x
           go s =
@@ -115,7 +115,7 @@ searched_left {t} law cap room allowance one metric done count i = go (searched_
         let w : found (cost_at rows k) j (row_at rows k).count k ≡ found metric done count i = ap (λ (x : Ended). x.outcome) (sym e) ∙ p in
         let m : k ≡ i = cc (w) in
         let r : rows ≡ _ = ap (λ (x : Ended). x.rows) (sym e) in
-        rw (← r, ← m) (record { within = h; first = first_open_unique rows k f; holds = found_holds law inv f h q })
+        rw (← r, ← m) (record { within = h; first = f; holds = found_holds law inv f h q })
     go (out_of_room j rows h k r q e) p = let n : ◌≡◌ {A = ℕ} 0 1 = cc (e, p) in absurd (omega arith)
     go (out_of_steps rows h r e) p = let n : ◌≡◌ {A = ℕ} 0 1 = cc (e, p) in absurd (omega arith)
 

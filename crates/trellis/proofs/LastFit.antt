@@ -1,5 +1,5 @@
--- Refusal 3: 'the greatest j with D(j) at most R, or 0 if none'. The definition looks at the j up to s alone; here it is shown that
--- where D(s) is above R it is the greatest of all j, since D does not fall. First how a search that stops finds it, then what it is.
+-- Law 4, for refusal 3: 'the greatest j with D(j) at most R, or 0 if none'. The definition looks at the j up to s alone; here it is shown
+-- that where D(s) is above R it is the greatest of all j, since D does not fall. First how a search that stops finds it, then what it is.
 -- What a verdict says that refuses so is in Refused. Assumes nothing.
 use mathlib.Core.Path.{◌≡◌, refl, sym}
 use mathlib.Core.Logic.{◌⊎◌, inl, inr}

@@ -1,5 +1,5 @@
--- The sheet's entries as next_closed finds their rows one after another, from the origin's row on: a loop that writes a sheet by the
--- place d of the entry and the row k that holds it. Assumes nothing.
+-- Laws 7 and 8: the sheet's entries as next_closed finds their rows one after another, from the origin's row on: a loop that writes a sheet
+-- by the place d of the entry and the row k that holds it. Assumes nothing.
 use mathlib.Core.Path.{◌≡◌, sym, ap, ◌∙◌, subst}
 use mathlib.Core.Logic.{◌⊎◌, inl, inr}
 use mathlib.Core.List.{List}
@@ -19,7 +19,7 @@ use Rattle.trellis.proofs.Cost.{cost_origin}
 use Rattle.trellis.proofs.Order.{Earlier, earlier_out, earlier_order}
 use Rattle.trellis.proofs.Honest.{lower, honest_in, honest_sorted}
 use Rattle.trellis.proofs.Table.{Stored}
-use Rattle.trellis.proofs.NextClosed.{After, Following, next_closed_is}
+use Rattle.trellis.proofs.Scan.{Following, next_closed_is}
 use Rattle.trellis.proofs.HonestRows.{Holds}
 
 -- what stands behind a sheet's last entry; it is never read
@@ -77,12 +77,15 @@ module _ {sheet : List Entry} {rows : List Row} (H : Holds sheet rows) (sorted :
 
   -- THE NEXT ENTRY has the row that next_closed finds
   pub listing_next : {d k : ℕ} → Listing sheet rows d k → d < length sheet → Listing sheet rows (suc d) (next_closed (node_at rows k) rows)
-  listing_next {d} {k} listing u = record { within = (λ v. F.some (due v).row (comes v)); equal = (λ v. same v) }
+  listing_next {d} {k} listing u = record { within = inside; equal = same }
     where
       x : Node
       x = node_at rows k
 
-      F : Following x rows (next_closed x rows)
+      n : ℕ
+      n = next_closed x rows
+
+      F : Following x rows n
       F = next_closed_is x rows
 
       own : x ≡ (entry_of sheet d).node
@@ -92,32 +95,28 @@ module _ {sheet : List Entry} {rows : List Row} (H : Holds sheet rows) (sorted :
       due : suc d < length sheet → Stored rows (entry_of sheet (suc d))
       due v = H.stored (entry_of sheet (suc d)) (place_in no_entry sheet (suc d) v)
 
-      comes : (v : suc d < length sheet) → After x rows (due v).row
-      comes v = record {
-        within = (due v).within;
-        shut = (due v).shut;
-        later = earlier_cast own (ap (λ (y : Entry). y.node) (due v).equal) (rises d (suc d) (omega arith) v);
-      }
+      comes : (v : suc d < length sheet) → T (earlier x (node_at rows (due v).row))
+      comes v = earlier_cast own (ap (λ (y : Entry). y.node) (due v).equal) (rises d (suc d) (omega arith) v)
 
-      same : suc d < length sheet → entry_at rows (next_closed x rows) ≡ entry_of sheet (suc d)
-      same v = at (F.here (F.some (due v).row (comes v)))
+      inside : suc d < length sheet → n < length rows
+      inside v = F.some (due v).row (due v).within ((due v).shut, comes v)
+
+      same : suc d < length sheet → entry_at rows n ≡ entry_of sheet (suc d)
+      same v = go (place_out no_entry sheet (H.listed n (inside v) (F.here (inside v)).0))
         where
-          at : After x rows (next_closed x rows) → entry_at rows (next_closed x rows) ≡ entry_of sheet (suc d)
-          at a = go (place_out no_entry sheet (H.listed (next_closed x rows) a.within a.shut))
+          go : Place no_entry sheet (entry_at rows n) → entry_at rows n ≡ entry_of sheet (suc d)
+          go p = pick (compared (suc d) p.index)
             where
-              go : Place no_entry sheet (entry_at rows (next_closed x rows)) → entry_at rows (next_closed x rows) ≡ entry_of sheet (suc d)
-              go p = pick (compared (suc d) p.index)
-                where
-                  above : d < p.index
-                  above = place_after p.index d p.within u (earlier_cast (sym own) (ap (λ (y : Entry). y.node) p.equal) a.later)
+              above : d < p.index
+              above = place_after p.index d p.within u (earlier_cast (sym own) (ap (λ (y : Entry). y.node) p.equal) (F.here (inside v)).1)
 
-                  pick : (suc d < p.index) ⊎ ((suc d ≡ p.index) ⊎ (p.index < suc d)) → entry_at rows (next_closed x rows) ≡ entry_of sheet (suc d)
-                  pick (inl l) =
-                      let own : node_at rows (due v).row ≡ (entry_of sheet (suc d)).node = ap (λ (y : Entry). y.node) (due v).equal in
-                      let other : node_at rows (next_closed x rows) ≡ (entry_of sheet p.index).node = ap (λ (y : Entry). y.node) (sym p.equal) in
-                      absurd (F.least (due v).row (comes v) (earlier_cast own other (rises (suc d) p.index l p.within)))
-                  pick (inr (inl q)) = sym p.equal ∙ ap (entry_of sheet) (sym q)
-                  pick (inr (inr l)) = absurd (omega (arith, above))
+              pick : (suc d < p.index) ⊎ ((suc d ≡ p.index) ⊎ (p.index < suc d)) → entry_at rows n ≡ entry_of sheet (suc d)
+              pick (inl l) =
+                  let own : node_at rows (due v).row ≡ (entry_of sheet (suc d)).node = ap (λ (y : Entry). y.node) (due v).equal in
+                  let other : node_at rows n ≡ (entry_of sheet p.index).node = ap (λ (y : Entry). y.node) (sym p.equal) in
+                  absurd (F.least (due v).row (due v).within ((due v).shut, comes v) (earlier_cast own other (rises (suc d) p.index l p.within)))
+              pick (inr (inl q)) = sym p.equal ∙ ap (entry_of sheet) (sym q)
+              pick (inr (inr l)) = absurd (omega (arith, above))
 
 -- ---- the honest sheet
 

@@ -1,6 +1,5 @@
--- Messages and the paths to the terminal are one to one; the terminal's cost is the least metric; the least messages are as many as
--- the least paths to the terminal (law 6). The verdict from them stands at the end. How large a metric can be is in Bounds.
--- Assumes nothing.
+-- Law 6: messages and the paths to the terminal are one to one; the terminal's cost is the least metric; the least messages are as many as
+-- the least paths to the terminal. The verdict from them stands at the end. How large a metric can be is in Bounds. Assumes nothing.
 use mathlib.Core.Path.{◌≡◌, refl, sym, ap, ◌∙◌, subst}
 use mathlib.Core.List.{List, [], ◌∷◌, ◌++◌, map, reverse, reverse-reverse}
 use Prim.Native.Nat.{ℕ, zero, suc, ◌+◌, ◌≤◌, ◌<◌}
@@ -16,7 +15,8 @@ use Rattle.lists.proofs.Least.{least_le, least_of}
 use Rattle.lists.proofs.Words.{grown_in, grown_out, grown_unique}
 use Rattle.trellis.specs.Trellis.{Trellis, Path, top, allowed, terminal, metric}
 use Rattle.trellis.specs.Verdict.{words, messages, path_of, least_metric, least_messages, steps, answered, tied, decided}
-use Rattle.trellis.specs.Lawful.{Allowed, start, step, message_of, Lawful, Ends}
+use Rattle.trellis.specs.Lawful.{Allowed, start, step, Lawful, Ends}
+use Rattle.trellis.specs.Search.{message_of}
 use Rattle.trellis.proofs.Paths.{Reached, allowed_message, allowed_tail, allowed_top}
 use Rattle.trellis.proofs.Cost.{Cost, cost_unique, LeastPaths, least_paths_length}
 

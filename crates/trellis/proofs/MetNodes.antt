@@ -16,8 +16,7 @@ use Rattle.lists.proofs.Distinct.{distinct_in, distinct_out, distinct_unique}
 use Rattle.lists.proofs.Sorted.{Sorted, take_sorted, take_or_after, take_before, sorted_unique, keep_before}
 use Rattle.lists.proofs.Places.{place_out}
 use Rattle.trellis.specs.Trellis.{Trellis, Node, same, origin, terminal, allowed, successors, cost}
-use Rattle.trellis.specs.Verdict.{Entry, priced, before, ranked, steps, met}
-use Rattle.trellis.specs.Sheet.{onto}
+use Rattle.trellis.specs.Verdict.{Entry, priced, before, ranked, steps, met, onto}
 use Rattle.trellis.proofs.Paths.{Reached, same_equality}
 use Rattle.trellis.proofs.Cost.{Cost, cost_is, cost_computed, cost_unique}
 use Rattle.trellis.proofs.Recurrence.{successors_in, successors_out, reached_origin}

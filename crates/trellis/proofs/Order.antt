@@ -1,5 +1,5 @@
--- Node order is a strict total order: of nodes by level, then state; of entries by cost first. What a branch brings stands later
--- than the entry that it leaves (law 2). Assumes nothing.
+-- Law 2, node order: it is a strict total order, of nodes by level, then state, of entries by cost first. What a branch brings stands later
+-- than the entry that it leaves. Assumes nothing.
 use mathlib.Core.Path.{◌≡◌}
 use mathlib.Core.Logic.{◌⊎◌, inl, inr}
 use mathlib.Core.Bool.{Bool}
@@ -9,8 +9,7 @@ use lib.Dec.{T, ltb, ltb→lt, lt→ltb}
 use Rattle.lists.proofs.Sorted.{Order}
 use Rattle.lists.proofs.Lexicographic.{compared, lexicographic_lt, lexicographic_eq, lexicographic_out, lexicographic_order}
 use Rattle.trellis.specs.Trellis.{Trellis, Path, Node, metric, end_node}
-use Rattle.trellis.specs.Verdict.{Entry, earlier, before}
-use Rattle.trellis.specs.Sheet.{onto}
+use Rattle.trellis.specs.Verdict.{Entry, earlier, before, onto}
 use Rattle.trellis.proofs.Paths.{node_path}
 
 -- ---- level, then state

@@ -1,4 +1,4 @@
--- The early parts of a path: itself, and what is left of it as its latest branches are taken off. Assumes nothing.
+-- For law 7: the early parts of a path, itself and what is left of it as its latest branches are taken off. Assumes nothing.
 use mathlib.Core.Path.{◌≡◌, refl, ap, subst}
 use mathlib.Core.List.{List, [], ◌∷◌}
 use Prim.Native.Nat.{ℕ, ◌≤◌}

@@ -1,5 +1,5 @@
--- The computed lists of paths and nodes hold what their names say: the allowed paths, those that end at a node, the reachable
--- nodes, each once. Costs are in Cost, what a path's last branch gives in Recurrence. Assumes nothing.
+-- For every law: the computed lists of paths and nodes hold what their names say: the allowed paths, those that end at a node, the
+-- reachable nodes, each once. Costs are in Cost, what a path's last branch gives in Recurrence. Assumes nothing.
 use mathlib.Core.Path.{◌≡◌, refl, sym, ap, ◌∙◌, subst}
 use mathlib.Core.List.{[], map, flat_map}
 use Prim.Native.Nat.{ℕ, zero, suc, ◌≤◌, ◌<◌}

@@ -1,6 +1,6 @@
--- The ranked nodes: sorted, none twice, and exactly the reachable nodes, each with its cost; and each of them but the origin has
--- its cost from a node ranked before it. (That a node's successors are all ranked after it does not hold: another path may reach a
--- successor at less than the node's own cost. What a branch brings stands later: onto_later, in Order.) Assumes nothing.
+-- Law 2, the ranked nodes: sorted, none twice, and exactly the reachable nodes, each with its cost; and each of them but the origin has its
+-- cost from a node ranked before it. (That a node's successors are all ranked after it does not hold: another path may reach a successor at
+-- less than the node's own cost. What a branch brings stands later: onto_later, in Order.) Assumes nothing.
 use mathlib.Core.Path.{◌≡◌, refl, sym, ap, subst}
 use mathlib.Core.List.{map}
 use Prim.Native.Nat.{ℕ, ◌<◌}
@@ -9,8 +9,7 @@ use Rattle.lists.proofs.Membership.{◌∈◌, member_cast, map_in, map_out}
 use Rattle.lists.proofs.Unique.{Unique, map_unique}
 use Rattle.lists.proofs.Sorted.{Sorted, sort_in, sort_out, sort_sorted, sorted_unique}
 use Rattle.trellis.specs.Trellis.{Trellis, allowed, reachable}
-use Rattle.trellis.specs.Verdict.{Entry, priced, before, ranked}
-use Rattle.trellis.specs.Sheet.{onto}
+use Rattle.trellis.specs.Verdict.{Entry, priced, before, ranked, onto}
 use Rattle.trellis.proofs.Paths.{reachable_in, reachable_out, reachable_unique}
 use Rattle.trellis.proofs.Cost.{Cost, cost_is, cost_computed}
 use Rattle.trellis.proofs.Recurrence.{predecessor}

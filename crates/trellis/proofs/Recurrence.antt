@@ -1,6 +1,5 @@
--- Costs level by level: a node above level 0 is reachable exactly if a predecessor is, and its cost is the least, over its
--- reachable predecessors, of their cost and the branch (law 1, second half). What a sweep of the levels cites.
--- Assumes nothing.
+-- Law 1, level by level: a node above level 0 is reachable exactly if a predecessor is, and its cost is the least, over its reachable
+-- predecessors, of their cost and the branch. What a sweep of the levels cites. Assumes nothing.
 use mathlib.Core.Path.{◌≡◌, sym, ap, ◌∙◌, subst}
 use mathlib.Core.List.{List, [], ◌∷◌, map, flat_map}
 use Prim.Native.Nat.{ℕ, suc, ◌+◌, ◌≤◌, ◌<◌}

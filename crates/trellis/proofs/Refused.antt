@@ -1,6 +1,6 @@
--- The refusals of the search in the reader's words. 3: the steps are the greatest j with D(j) at most R. 4: B is below E, and D(B) at
--- most R. 5: exactly if two messages have the least metric, E is at most B and D(E) at most R; it carries that metric and E.
--- The answer is in Answered. Assumes nothing.
+-- Law 9, the refusals in the reader's words. 3: the steps are the greatest j with D(j) at most R. 4: B is below E, and D(B) at most R.
+-- 5: exactly if two messages have the least metric, E is at most B and D(E) at most R; it carries that metric and E. The answer is in
+-- Answered. Assumes nothing.
 use mathlib.Core.Path.{◌≡◌, refl, sym, ap, subst, ◌∙◌}
 use mathlib.Core.Logic.{◌⊎◌, inl, inr}
 use mathlib.Core.List.{List, [], ◌∷◌}

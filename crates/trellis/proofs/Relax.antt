@@ -1,4 +1,4 @@
--- Amid an expansion: what holds of the rows after the first branches of a closed row, and that one branch more keeps it or is
+-- For law 8, amid an expansion: what holds of the rows after the first branches of a closed row, and that one branch more keeps it or is
 -- stopped by a room smaller than D. Assumes nothing.
 use mathlib.Core.Path.{◌≡◌, refl, sym, ap, ◌∙◌, subst}
 use mathlib.Core.Logic.{◌⊎◌, inl, inr}

@@ -1,4 +1,4 @@
--- The rows are nodes that the closed nodes lead to, none twice: no more than D(j), and just D(j) once all branches are taken.
+-- For law 8: the rows are nodes that the closed nodes lead to, none twice: no more than D(j), and just D(j) once all branches are taken.
 -- Assumes nothing.
 use mathlib.Core.Path.{◌≡◌, sym, ap, ◌∙◌}
 use mathlib.Core.Logic.{◌⊎◌, inl, inr}

@@ -1,5 +1,5 @@
--- The search's run: how it goes on where the first open row and the step are known, and the four ways in which it ends, each with
--- what is then known. Assumes nothing.
+-- For law 8, the search's run: how it goes on where the first open row and the step are known, and the four ways in which it ends, each
+-- with what is then known. Assumes nothing.
 use mathlib.Core.Path.{◌≡◌, refl, sym, ap, subst}
 use mathlib.Core.Logic.{◌⊎◌, inl, inr}
 use mathlib.Core.List.{List, [], ◌∷◌}
@@ -18,7 +18,6 @@ use Rattle.trellis.proofs.Paths.{same_equality}
 use Rattle.trellis.proofs.Messages.{terminal_reached}
 use Rattle.trellis.proofs.Step.{Closed}
 use Rattle.trellis.proofs.MetNodes.{steps_past, next_inside}
-use Rattle.trellis.proofs.Rows.{First, first_open_is}
 use Rattle.trellis.proofs.Relax.{Going}
 use Rattle.trellis.proofs.Between.{Between, started_between, Next, between_met, between_open, between_next}
 use Rattle.trellis.proofs.Expand.{expand_going}
@@ -65,8 +64,8 @@ pub data Ending (t : Trellis) (cap room allowance : ℕ) (e : Ended) : Type 0 wh
   -- not even the origin has room
   no_room : room ≡ 0 → e ≡ record { rows = []; outcome = full 0 } → Ending t cap room allowance e
   -- the terminal is first after j steps
-  at_terminal : (j i : ℕ) (rows : List Row) → Between t cap room j rows → First rows i → i < length rows → node_at rows i ≡ terminal t → j ≤ allowance
-      → e ≡ arrived rows i j → Ending t cap room allowance e
+  at_terminal : (j i : ℕ) (rows : List Row) → Between t cap room j rows → i ≡ first_open rows → i < length rows → node_at rows i ≡ terminal t
+      → j ≤ allowance → e ≡ arrived rows i j → Ending t cap room allowance e
   -- j steps have room, and the next does not
   out_of_room : (j : ℕ) (rows : List Row) → j < steps t → j < allowance → met t j ≤ room → room < met t (suc j)
       → e ≡ record { rows = rows; outcome = full j } → Ending t cap room allowance e
@@ -95,7 +94,7 @@ module _ {t : Trellis} (law : Lawful t) {cap room : ℕ} where
           (λ m. go (append_out (take j (ranked t)) (rw next.grows at m)))
         where
           next : Next t cap j (first_open rows) rows
-          next = between_next inv (first_open_is rows) inside
+          next = between_next inv refl inside
 
           go : Closed t j (terminal t) ⊎ (priced t (terminal t) ∈ (entry_at rows (first_open rows) ∷ [])) → ⊥
           go (inl m) = inv.table.ahead m
@@ -103,12 +102,12 @@ module _ {t : Trellis} (law : Lawful t) {cap room : ℕ} where
 
       -- the run's step
       pub step_going : Going (Between t cap room (suc j)) (room < met t (suc j)) (after t cap room rows)
-      step_going = expand_going inv (first_open_is rows) inside apart
+      step_going = expand_going inv refl inside apart
 
     -- the terminal is first
     arriving : (left : ℕ) → Arrived t rows → Ending t cap room (j + left) (run t cap room left j rows)
     arriving left h =
-        at_terminal j (first_open rows) rows inv (first_open_is rows) inside (same_equality.sound (node_at rows (first_open rows)) (terminal t) h) (omega arith)
+        at_terminal j (first_open rows) rows inv refl inside (same_equality.sound (node_at rows (first_open rows)) (terminal t) h) (omega arith)
         (run_found t cap room j rows left h)
 
   -- the whole run ends in one of these ways

@@ -1,5 +1,5 @@
--- Every step of the search keeps its rows safe (specs/Safe): so a bound on metrics and on reached nodes bounds rows, whatever order they
--- are expanded in. That the search is right is not here but in Between, Expand and Searched. Assumes nothing.
+-- Beside law 8: every step of the search keeps its rows safe (specs/Safe): so a bound on metrics and on reached nodes bounds rows, whatever
+-- order they are expanded in. That the search is right is not here but in Between, Expand and Searched. Assumes nothing.
 use mathlib.Core.Path.{◌≡◌, refl, sym, ap, ◌∙◌, subst}
 use mathlib.Core.List.{List, [], ◌∷◌}
 use mathlib.Core.Bool.{Bool, true, false}
@@ -8,7 +8,7 @@ use native.Mathlib.Decide.{ℕ_discrete, dec_lt}
 use native.Mathlib.Omega.{arith}
 use lib.ListN.{length, length-set, length-append}
 use Rattle.trellis.specs.Trellis.{Trellis, Node, top, allowed, ends, along}
-use Rattle.trellis.specs.Sheet.{onto}
+use Rattle.trellis.specs.Verdict.{onto}
 use Rattle.trellis.specs.Lawful.{start}
 use Rattle.trellis.specs.Search.{Row, row_at, entry_at, node_at, started, gained, shut, closed, Tried, arrival, relax, onward, fan, expand}
 use Rattle.trellis.specs.Safe.{SafeRow, Safe}

@@ -1,5 +1,5 @@
--- The search computes: document 01's cases 4 to 11, run over a small trellis written here, give the paper's numbers.
--- The same cases of the definitions stand in the list of starred cases, not here. Assumes nothing.
+-- Law 8 by computation: document 01's cases 4 to 11, run by the search over a small trellis written here, give the paper's numbers. The
+-- same cases of the definitions stand in the list of starred cases, not here. Assumes nothing.
 use mathlib.Core.Path.{◌≡◌, refl}
 use mathlib.Core.List.{List, [], ◌∷◌}
 use mathlib.Core.Bool.{cond}
@@ -9,7 +9,7 @@ use lib.ListN.{get_or}
 use Rattle.lists.specs.Lists.{below}
 use Rattle.trellis.specs.Trellis.{Trellis, allowed}
 use Rattle.trellis.specs.Verdict.{Verdict, answered, room_short, allowance_spent, tied}
-use Rattle.trellis.specs.Search.{find_row, first_open, entered, relax, onward, fan, expand, run, searched, trace, read, verdict_of}
+use Rattle.trellis.specs.Search.{find_row, first_by, first_open, entered, relax, onward, fan, expand, run, searched, trace, read, verdict_of}
 
 -- code 7, 5 with one message bit, over a block given as hard bits and weights
 abbrev small : List ℕ → List ℕ → Trellis
@@ -45,5 +45,5 @@ pub cases :
     answer zeros 6 5 ∷ answer eleventh 6 5 ∷ []) ≡
     (answered (1 ∷ []) 3 3 ∷ room_short 2 ∷ allowance_spent 2 ∷ room_short 1 ∷ room_short 0 ∷ allowance_spent 0 ∷
     tied 0 5 ∷ tied 2 5 ∷ [])
-unfolding below allowed find_row first_open entered relax onward fan expand run searched trace read
+unfolding below allowed find_row first_by first_open entered relax onward fan expand run searched trace read
 cases = refl

@@ -13,8 +13,7 @@ use Rattle.lists.proofs.Membership.{◌∈◌, here, nil_out, append_out, single
 use Rattle.lists.proofs.Membership.{map_in, map_out, flat_map_in, flat_map_out, FlatMapped}
 use Rattle.lists.proofs.Unique.{Unique, append_unique, map_unique, flat_map_unique}
 use Rattle.trellis.specs.Trellis.{Trellis, Path, Node, origin, allowed, ends, along, metric, end_node, paths_to, cost}
-use Rattle.trellis.specs.Verdict.{Entry, entry}
-use Rattle.trellis.specs.Sheet.{onto}
+use Rattle.trellis.specs.Verdict.{Entry, entry, onto}
 use Rattle.trellis.specs.Lawful.{start, Ends}
 use Rattle.trellis.proofs.Paths.{ends_here}
 use Rattle.trellis.proofs.Cost.{Cost, cost_is, cost_unique, cost_origin, LeastPaths, least_paths, least_paths_length}

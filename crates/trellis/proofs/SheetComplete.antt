@@ -11,8 +11,8 @@ use lib.Dec.{T}
 use Rattle.lists.proofs.Membership.{◌∈◌, here, further, singleton_out}
 use Rattle.lists.proofs.Tests.{true_out}
 use Rattle.trellis.specs.Trellis.{Trellis, Path, Node, ends, along, metric, end_node, terminal, cost}
-use Rattle.trellis.specs.Verdict.{Entry, entry, priced, path_of, least_metric, least_messages}
-use Rattle.trellis.specs.Sheet.{onto, carries, honest}
+use Rattle.trellis.specs.Verdict.{Entry, entry, priced, path_of, least_metric, least_messages, onto}
+use Rattle.trellis.specs.Sheet.{carries, honest}
 use Rattle.trellis.specs.Lawful.{Allowed, start, step, Lawful, Ends}
 use Rattle.trellis.proofs.Paths.{ends_here, node_path}
 use Rattle.trellis.proofs.Cost.{Cost, cost_is, cost_origin}

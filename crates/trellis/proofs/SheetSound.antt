@@ -13,8 +13,8 @@ use lib.ListN.{length}
 use Rattle.lists.proofs.Tests.{true_in}
 use Rattle.lists.proofs.Membership.{◌∈◌, here, nil_out, every_cons}
 use Rattle.trellis.specs.Trellis.{Trellis, Path, Node, terminal, ends, along, metric, end_node}
-use Rattle.trellis.specs.Verdict.{Entry, messages, path_of, least_metric, least_messages}
-use Rattle.trellis.specs.Sheet.{onto, carries}
+use Rattle.trellis.specs.Verdict.{Entry, messages, path_of, least_metric, least_messages, onto}
+use Rattle.trellis.specs.Sheet.{carries}
 use Rattle.trellis.specs.Lawful.{Allowed, start, step, Lawful, Ends}
 use Rattle.trellis.proofs.Paths.{node_path}
 use Rattle.trellis.proofs.Cost.{Cost, LeastPaths}

@@ -1,5 +1,5 @@
--- What the computed conditions of a sheet say, for programs and laws to cite: each law NAME-test gives both ways, `out` from the
--- test and `into` it. First being listed, then the parts of a path one by one, then A to D and `carries`.
+-- For law 7: what the computed conditions of a sheet say, for programs and laws to cite: each law NAME-test gives both ways, `out` from
+-- the test and `into` it. First being listed, then the parts of a path one by one, then A to D and `carries`.
 -- Not here: that a sheet which carries its claim is right (SheetSound), that an honest sheet carries it (SheetComplete).
 -- Assumes nothing.
 use mathlib.Core.Path.{◌≡◌, refl, sym, ap}
@@ -11,8 +11,8 @@ use Rattle.lists.specs.Lists.{below}
 use Rattle.lists.proofs.Membership.{◌∈◌, here, further, nil_out, member_cast, Every, every_cons, below_in, below_out}
 use Rattle.lists.proofs.Decides.{Decides, said, together, either, whenever, each, some, equal, less, at_most}
 use Rattle.trellis.specs.Trellis.{Trellis, Path, Node, same, allowed, ends, along, metric, end_node}
-use Rattle.trellis.specs.Verdict.{Entry, entry}
-use Rattle.trellis.specs.Sheet.{listed_as, listed_within, onto, all_branches, condition_a, condition_b, condition_c, condition_d, carries}
+use Rattle.trellis.specs.Verdict.{Entry, entry, onto}
+use Rattle.trellis.specs.Sheet.{listed_as, listed_within, all_branches, condition_a, condition_b, condition_c, condition_d, carries}
 use Rattle.trellis.proofs.Paths.{node_path}
 use Rattle.trellis.proofs.Order.{entry_path, mark}
 use Rattle.trellis.proofs.Parts.{parts}

@@ -11,8 +11,7 @@ use lib.ListN.{take}
 use Rattle.lists.proofs.Membership.{◌∈◌, here, further, nil_out, member_cast, eq_or_lt}
 use Rattle.lists.proofs.Sorted.{Sorted}
 use Rattle.trellis.specs.Trellis.{Trellis, Path, Node, origin, allowed, ends, along, metric, end_node, cost}
-use Rattle.trellis.specs.Verdict.{Entry, entry, priced, before, ranked}
-use Rattle.trellis.specs.Sheet.{onto}
+use Rattle.trellis.specs.Verdict.{Entry, entry, priced, before, ranked, onto}
 use Rattle.trellis.specs.Lawful.{Allowed, start, step}
 use Rattle.trellis.specs.Safe.{Attains, Attained}
 use Rattle.trellis.proofs.Paths.{ends_here, node_path}

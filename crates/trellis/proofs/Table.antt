@@ -1,5 +1,5 @@
--- What the rows of the search say: the table's invariant, over the branches taken so far, and that a row for the next branch keeps it.
--- Where the rows' paths are is in Trace, the search's own steps in Relax and Between. Assumes nothing.
+-- For law 8: what the rows of the search say: the table's invariant, over the branches taken so far, and that a row for the next branch
+-- keeps it. Where the rows' paths are is in Trace, the search's own steps in Relax and Between. Assumes nothing.
 use mathlib.Core.Path.{◌≡◌, sym, ap, ◌∙◌, subst}
 use mathlib.Core.Logic.{◌⊎◌, inl, inr}
 use mathlib.Core.List.{List, [], ◌∷◌, map}
@@ -15,8 +15,7 @@ use Rattle.lists.proofs.Membership.{◌∈◌, here, further, member_cast, keep_
 use Rattle.lists.proofs.Unique.{Unique}
 use Rattle.lists.proofs.Distinct.{Equality}
 use Rattle.trellis.specs.Trellis.{Trellis, Node, same, terminal, allowed}
-use Rattle.trellis.specs.Verdict.{Entry, entry, ranked}
-use Rattle.trellis.specs.Sheet.{onto}
+use Rattle.trellis.specs.Verdict.{Entry, entry, ranked, onto}
 use Rattle.trellis.specs.Search.{Row, row_at, entry_at, node_at, cost_at}
 use Rattle.trellis.proofs.Paths.{same_equality}
 use Rattle.trellis.proofs.Order.{entry_path}

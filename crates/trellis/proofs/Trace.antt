@@ -1,4 +1,4 @@
--- The trace of a row is a path to its node, and its metric is the row's cost: so whatever bounds paths and metrics bounds rows.
+-- For law 8: the trace of a row is a path to its node, and its metric is the row's cost: so whatever bounds paths and metrics bounds rows.
 -- Assumes nothing.
 use mathlib.Core.Path.{◌≡◌, refl, sym, ap, ◌∙◌, subst}
 use mathlib.Core.List.{List, [], ◌∷◌}

@@ -1,4 +1,4 @@
--- The verdict by how a search came to its end: no room at all, full after j steps, the allowance spent, the terminal found, which is
+-- Law 9: the verdict by how a search came to its end: no room at all, full after j steps, the allowance spent, the terminal found, which is
 -- what the search's last step cites; then the three ways to a verdict, for its readers (Answered, Refused). Assumes nothing.
 use mathlib.Core.Path.{◌≡◌, ap}
 use mathlib.Core.Logic.{◌⊎◌, inl, inr}

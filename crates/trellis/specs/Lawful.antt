@@ -1,6 +1,6 @@
--- Which paths are allowed and where they end, the message of a path, and what the laws of the verdict ask of a trellis: that every message's path ends
--- in the terminal. Not believed: the verdict is said without them; a code's trellis is shown to be lawful. Assumes nothing.
-use Rattle.std.specs.Prelude.{◌≡◌, List, [], ◌∷◌, reverse, ℕ, ◌<◌, length, drop}
+-- Which paths are allowed and where they end, and what the laws of the verdict ask of a trellis: that every message's path ends in the
+-- terminal. Not believed: the verdict is said without them; a code's trellis is shown to be lawful. Assumes nothing.
+use Rattle.std.specs.Prelude.{◌≡◌, [], ◌∷◌, ℕ, ◌<◌, length}
 use Rattle.trellis.specs.Trellis.{Trellis, Path, Node, top, allowed, ends}
 
 -- every input of the path is allowed at its level
@@ -13,10 +13,6 @@ pub record Ends (t : Trellis) (x : Node) (p : Path) : Type 0 where
   pub allowed : Allowed t p
   pub level : length p ≡ x.level
   pub state : ends t p ≡ x.state
-
--- the message of a path to the terminal: the tail dropped, the first input first
-abbrev pub message_of : Trellis → Path → List ℕ
-message_of t p = reverse (drop t.tail p)
 
 -- what the laws of the verdict ask
 pub record Lawful (t : Trellis) : Type 0 where

@@ -2,11 +2,9 @@
 -- Rows and the store's functions; one branch; one node; the run; the trace; the outcome read as a verdict. All of them compute.
 -- Not believed: proofs/Searched shows that the outcome is the verdict of document 01, which alone says what a decode must answer.
 -- Assumes nothing.
-use Rattle.std.specs.Prelude.{List, [], ◌∷◌, ◌++◌, Bool, true, false, cond, ◌&&◌, ℕ, zero, suc, ◌+◌, min, eqb, ltb, leb, length, get_or, set}
+use Rattle.std.specs.Prelude.{List, [], ◌∷◌, ◌++◌, Bool, true, false, cond, not, ◌&&◌, ℕ, zero, suc, ◌+◌, min, eqb, ltb, leb, length, get_or, drop, reverse, set}
 use Rattle.trellis.specs.Trellis.{Trellis, Path, Node, same, top, allowed, terminal}
-use Rattle.trellis.specs.Verdict.{Entry, entry, earlier, before, Verdict, answered, room_short, allowance_spent, tied}
-use Rattle.trellis.specs.Sheet.{onto}
-use Rattle.trellis.specs.Lawful.{message_of}
+use Rattle.trellis.specs.Verdict.{Entry, entry, earlier, before, Verdict, answered, room_short, allowance_spent, tied, onto}
 
 -- ---- rows
 
@@ -46,26 +44,24 @@ cost_at rows i = (row_at rows i).entry.cost
 abbrev pub started : List Row
 started = record { entry = entry 0 0 0; count = 1; parent = 0; input = 0; closed = false } ∷ []
 
--- the index of a node's row; the number of rows if it has none
+-- the index of the eligible row that is first in an order, of equal ones the first; the number of rows if none is eligible
+unfoldable pub first_by : (eligible : Row → Bool) (ahead : Row → Row → Bool) → List Row → ℕ
+first_by eligible ahead [] = 0
+first_by eligible ahead (r ∷ rows) =
+    let rest : ℕ = first_by eligible ahead rows in
+    cond (eligible r) (cond (ltb rest (length rows) && ahead (row_at rows rest) r) (suc rest) 0) (suc rest)
+
+-- a node's row: no row stands ahead of another
 unfoldable pub find_row : Node → List Row → ℕ
-find_row x [] = 0
-find_row x (r ∷ rows) = let rest : ℕ = find_row x rows in cond (same r.entry.node x) 0 (suc rest)
+find_row x = first_by (λ r. same r.entry.node x) (λ r s. false)
 
--- the index of the open row that is first in node order; the number of rows if none is open
+-- the open row that is first in node order
 unfoldable pub first_open : List Row → ℕ
-first_open [] = 0
-first_open (r ∷ rows) =
-    let rest : ℕ = first_open rows in
-    cond r.closed (suc rest) (cond (ltb rest (length rows) && before (entry_at rows rest) r.entry) (suc rest) 0)
+first_open = first_by (λ r. not r.closed) (λ r s. before r.entry s.entry)
 
--- the index of the closed row whose node comes next after x, by level, then state; the number of rows if there is none
+-- the closed row whose node comes next after x, by level, then state
 unfoldable pub next_closed : Node → List Row → ℕ
-next_closed x [] = 0
-next_closed x (r ∷ rows) =
-    let rest : ℕ = next_closed x rows in
-    cond (r.closed && earlier x r.entry.node)
-    (cond (ltb rest (length rows) && earlier (node_at rows rest) r.entry.node) (suc rest) 0)
-    (suc rest)
+next_closed x = first_by (λ r. r.closed && earlier x r.entry.node) (λ r s. earlier r.entry.node s.entry.node)
 
 -- a row at the end
 abbrev pub added : List Row → Row → List Row
@@ -173,6 +169,10 @@ searched t cap (suc room) allowance = run t cap (suc room) allowance 0 started
 unfoldable pub trace : (rows : List Row) (level i : ℕ) → Path
 trace rows zero i = []
 trace rows (suc level) i = (row_at rows i).input ∷ trace rows level (row_at rows i).parent
+
+-- the message of a path to the terminal: the tail dropped, the first input first
+abbrev pub message_of : Trellis → Path → List ℕ
+message_of t p = reverse (drop t.tail p)
 
 -- an outcome as a verdict: one least path is an answer, more are a tie
 unfoldable pub read : Trellis → List Row → Outcome → Verdict

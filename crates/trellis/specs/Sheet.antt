@@ -1,9 +1,9 @@
 -- The conditions A to D of a decision sheet, and the honest sheet: document 01, 'The decision sheet', over a list of entries.
 -- Believed, and read after Verdict. The sheet's bytes are not here. Assumes nothing.
-use Rattle.std.specs.Prelude.{List, [], ◌∷◌, map, Bool, true, not, ◌&&◌, ◌||◌, ℕ, suc, ◌+◌, eqb, ltb, leb}
+use Rattle.std.specs.Prelude.{List, [], ◌∷◌, map, Bool, true, not, ◌&&◌, ◌||◌, ℕ, eqb, ltb, leb}
 use Rattle.lists.specs.Lists.{all, any, keep, sort, below}
 use Rattle.trellis.specs.Trellis.{Trellis, Path, Node, same, allowed, ends, metric, end_node, origin, reachable}
-use Rattle.trellis.specs.Verdict.{Entry, entry, priced, earlier}
+use Rattle.trellis.specs.Verdict.{Entry, priced, earlier, onto}
 
 -- a node is listed with just this cost
 unfoldable pub listed_as : List Entry → Node → ℕ → Bool
@@ -12,10 +12,6 @@ listed_as sheet x c = any (λ e. same e.node x && eqb e.cost c) sheet
 -- a node is listed with a cost of at most this
 unfoldable pub listed_within : List Entry → Node → ℕ → Bool
 listed_within sheet x c = any (λ e. same e.node x && leb e.cost c) sheet
-
--- where the branch from an entry with an input leads, with c + b, the entry's cost and the branch's
-abbrev pub onto : Trellis → Entry → ℕ → Entry
-onto t e b = entry (e.cost + t.price e.node.level e.node.state b) (suc e.node.level) (t.next e.node.state b)
 
 -- every allowed branch from every entry passes the test
 abbrev pub all_branches : Trellis → List Entry → (Entry → ℕ → Bool) → Bool

@@ -1,7 +1,7 @@
 -- Node order, E, D(j) and the verdict for a room R and an allowance B: document 01, 'Node order' and what follows it.
 -- Believed, and read after Trellis. Assumes nothing.
 use mathlib.Core.List.{List, [], ◌∷◌, ◌++◌, map, flat_map, reverse}
-use Rattle.std.specs.Prelude.{Bool, cond, ◌&&◌, ◌||◌, ℕ, zero, suc, min, eqb, ltb, leb, length, take, replicate}
+use Rattle.std.specs.Prelude.{Bool, cond, ◌&&◌, ◌||◌, ℕ, zero, suc, ◌+◌, min, eqb, ltb, leb, length, take, replicate}
 use Rattle.lists.specs.Lists.{keep, distinct, sort, below, least}
 use Rattle.trellis.specs.Trellis.{Trellis, Path, Node, node, same, origin, terminal, successors, reachable, cost, metric}
 
@@ -19,6 +19,10 @@ entry c l s = record { cost = c; node = node l s }
 -- a node with its own cost
 abbrev pub priced : Trellis → Node → Entry
 priced t x = record { cost = cost t x; node = x }
+
+-- where the branch from an entry with an input leads, with c + b, the entry's cost and the branch's
+abbrev pub onto : Trellis → Entry → ℕ → Entry
+onto t e b = entry (e.cost + t.price e.node.level e.node.state b) (suc e.node.level) (t.next e.node.state b)
 
 -- 'then level, then state'
 abbrev pub earlier : Node → Node → Bool

@@ -1,26 +1,25 @@
 -- What follows from an answered search for its sheet: the entries that the rows list, the terminal's row closed, are the honest sheet's;
 -- there are E + 1 of them, no more than the room; their costs fit; the message is L bits. Assumes nothing.
-use mathlib.Core.Path.{◌≡◌, sym, ap, ◌∙◌}
+use mathlib.Core.Path.{◌≡◌, refl, sym, ap, ◌∙◌}
 use mathlib.Core.List.{List}
 use mathlib.Core.Bool.{true}
 use Prim.Native.Nat.{ℕ, zero, suc, ◌+◌, ◌^◌, ◌≤◌, ◌<◌}
 use native.Mathlib.Omega.{arith}
-use lib.IntN.{ℤ}
 use lib.ListN.{length, take, drop, length-set, drop_of_length-le}
 use lib.Seq.{drop-cons, take_at}
 use lib.Dec.{le→leb}
 use Rattle.lists.specs.Lists.{all}
+use Rattle.desk.specs.Desk.{handed, told_by}
 use Rattle.lists.proofs.Tests.{true_out}
 use Rattle.lists.proofs.Membership.{all_in}
 use Rattle.lists.proofs.Places.{place_in}
-use Rattle.codes.specs.declared.table.Code.{Code}
 use Rattle.codes.specs.Limits.{longest_message}
 use Rattle.codes.specs.Encoding.{is_bit}
 use Rattle.trellis.specs.Trellis.{Trellis, Path, top, terminal}
 use Rattle.trellis.specs.Verdict.{Entry, least_metric, messages}
 use Rattle.trellis.specs.Sheet.{honest}
-use Rattle.trellis.specs.Lawful.{Lawful, message_of, Ends}
-use Rattle.trellis.specs.Search.{Row, row_at, node_at, next_closed, shut, closed, searched, trace}
+use Rattle.trellis.specs.Lawful.{Lawful, Ends}
+use Rattle.trellis.specs.Search.{Row, row_at, node_at, next_closed, shut, closed, searched, trace, message_of}
 use Rattle.trellis.proofs.Messages.{words_out, Word, message_of_in}
 use Rattle.trellis.proofs.Found.{Right}
 use Rattle.trellis.proofs.Trace.{length_trace}
@@ -29,21 +28,20 @@ use Rattle.trellis.proofs.Honest.{honest_out}
 use Rattle.trellis.proofs.HonestRanked.{length_honest}
 use Rattle.trellis.proofs.HonestRows.{Holds, Left, searched_left, length_holds}
 use Rattle.trellis.proofs.Listing.{no_entry, Listing, honest_start, honest_next}
-use Rattle.blocks.specs.Symbols.{view}
-use Rattle.blocks.specs.Blocks.{trellis_of}
-use Rattle.blocks.proofs.Closing.{trellis_lawful}
+use Rattle.blocks.specs.Machines.{trellis_under}
+use Rattle.blocks.specs.declared.block.Block.{Block}
+use Rattle.blocks.proofs.Asked.{block_span, inputs_few}
 use Rattle.store.specs.Memory.{Shown, showing}
-use Rattle.search.specs.Decoding.{told, handed, decoding}
-use Rattle.search.specs.Work.{cap, Traceable, in_front}
-use Rattle.search.specs.Settling.{Answer, Passed}
-use Rattle.search.specs.declared.decoder.Settled.{Settled}
-use Rattle.search.proofs.Decodings.{decoding_verdict}
+use Rattle.search.specs.Decoding.{found, decode_desk}
+use Rattle.search.specs.Limits.{largest_room}
+use Rattle.search.specs.Work.{cap, Lent, in_front, Answer}
+use Rattle.search.specs.declared.seen.Settled.{Settled}
+use Rattle.search.proofs.Answers.{desk_verdict}
 use Rattle.search.proofs.Tracing.{front_whole}
-use Rattle.search.proofs.Sizes.{Fit, sizes_fit_out}
-use Rattle.search.proofs.Halting.{answer_traceable, answer_told}
+use Rattle.search.proofs.Halting.{answer_told}
 use Rattle.sheets.specs.Bytes.{sheet_bytes}
 use Rattle.sheets.specs.Checking.{most_entries, honest_sheet}
-use Rattle.sheets.specs.Steps.{sheet_size, Puttable}
+use Rattle.sheets.specs.Work.{sheet_size, Puttable}
 use Rattle.sheets.proofs.Written.{length_sheet_bytes}
 use Rattle.writer.specs.Work.{listed, Listable, sheet_of}
 
@@ -80,21 +78,19 @@ module _ (t : Trellis) (m : ℕ) {rows : List Row} (H : Holds (honest t m) rows)
 
 -- ---- an answer
 
-module _ {c : Code} {l : ℕ} {symbols : List ℤ} {room allowance : ℕ} {first : Shown} {buffer : ℕ} {nodes : Shown} {s : Settled}
-    (P : Passed c l symbols room allowance first buffer nodes s) where
-  abbrev t : Trellis
-  t = trellis_of c l (view symbols)
+-- what the writing of a sheet asks of a trellis: L and the room are small, an input is a bit
+pub record Sized (t : Trellis) (l room : ℕ) : Type 0 where
+  pub span : t.span ≡ l
+  pub bits : t.inputs ≤ 2
+  pub long : l ≤ longest_message
+  pub small : room ≤ largest_room
 
-  law : Lawful t
-  law = trellis_lawful c l (view symbols)
+-- a block as it was seen has all of it
+pub block_sized : (b : Block) {room words : ℕ} → Lent room words → Sized (trellis_under b) b.bits room
+block_sized b lent = record { span = block_span b; bits = inputs_few b; long = b.span; small = lent.small }
 
-  abbrev A : Answer t room allowance first nodes s
-  A = P.answer
-
-  -- all sizes are as stated
-  pub sizes : Fit c l (length symbols) room first.words buffer
-  sizes = sizes_fit_out c l (length symbols) room first.words buffer P.fits
-
+module _ {t : Trellis} (law : Lawful t) {l room allowance : ℕ} (Z : Sized t l room) {first nodes : Shown} {s : Settled}
+    (A : Answer t room allowance first nodes s) where
   -- the memory shows the rows that the search left
   shown_rows : nodes.rows ≡ (searched t cap room allowance).rows
   shown_rows = ap (λ (x : Shown). x.rows) A.shows
@@ -114,19 +110,18 @@ module _ {c : Code} {l : ℕ} {symbols : List ℤ} {room allowance : ℕ} {first
   abbrev word : List ℕ
   word = message_of t way
 
-  -- for the trace: the rows on that way are there
-  pub way_there : Traceable nodes.rows (top t) s.row
-  way_there = answer_traceable law A
-
   -- L bits
-  word_whole : Word 2 l word
+  word_whole : Word t.inputs t.span word
   unfolding messages
   word_whole =
       let there : Ends t (terminal t) way = rw shown_rows right.traced.there in
-      words_out 2 l (message_of_in t there.allowed there.level)
+      words_out t.inputs t.span (message_of_in t there.allowed there.level)
+
+  word_length : length word ≡ l
+  word_length = word_whole.length ∙ Z.span
 
   word_all : all is_bit word ≡ true
-  word_all = true_out (all is_bit word) (all_in is_bit word (λ b m. let h : b < 2 = word_whole.fits b m in le→leb b 1 (omega arith)))
+  word_all = true_out (all is_bit word) (all_in is_bit word (λ b m. let h : b < t.inputs = word_whole.fits b m in le→leb b 1 (omega (arith, Z.bits))))
 
   -- E + 1 entries, no more than the room
   pub entries_count : s.found.steps + 1 ≡ length (honest t (least_metric t))
@@ -140,38 +135,41 @@ module _ {c : Code} {l : ℕ} {symbols : List ℤ} {room allowance : ℕ} {first
 
   -- for the size: a sheet of so many entries can be put
   pub sizable : (l ≤ longest_message) × (s.found.steps + 1 ≤ most_entries)
-  sizable = (sizes.long, omega (arith, entries_few, sizes.small))
+  sizable = (Z.long, omega (arith, entries_few, Z.small))
 
   -- ---- the message is written
 
-  module _ (message : List ℕ) (whole : length message ≡ buffer) {exit : List ℕ} (e : exit ≡ in_front l (top t) way message) where
-    -- as `decode` would
-    pub answer_decoding : handed 0 s.found.metric s.found.steps exit ≡ decoding c l symbols room allowance first.words message
-    unfolding told
-    answer_decoding =
-        answer_told law A message exit e
-        ∙ sym (decoding_verdict c l symbols room allowance first.words message P.lawful (rw whole P.fits))
+  module _ (message : List ℕ) {level : ℕ} (high : level ≡ top t) {exit : List ℕ}
+      (e : exit ≡ in_front l level (trace nodes.rows level s.row) message) where
+    -- from the top, in front of L bytes
+    as_spanned : exit ≡ in_front t.span (top t) way message
+    as_spanned = e ∙ (λ z. in_front (sym Z.span z) (high z) (trace nodes.rows (high z) s.row) message)
+
+    -- as a decode would
+    pub answer_decoding : handed (found s.found) exit ≡ decode_desk true true true t room allowance message
+    unfolding told_by
+    answer_decoding = answer_told law A message exit as_spanned ∙ sym (desk_verdict true true true t room allowance message refl refl refl)
 
     -- in front of the buffer
     exit_front : take l exit ≡ word
-    exit_front = ap (take l) (e ∙ front_whole t way message (length_trace nodes.rows (top t) s.row)) ∙ take_at word _ l word_whole.length
+    exit_front = ap (take l) (as_spanned ∙ front_whole t way message (length_trace nodes.rows (top t) s.row)) ∙ take_at word _ l word_length
 
     -- L bits, for the sheet's message
     pub length_front : length (take l exit) ≡ l
-    length_front = ap length exit_front ∙ word_whole.length
+    length_front = ap length exit_front ∙ word_length
 
     pub front_bits : all is_bit (take l exit) ≡ true
     front_bits = ap (all is_bit) exit_front ∙ word_all
 
     -- the size of its sheet
-    pub sheet_size_lem : sheet_size l (s.found.steps + 1) ≡ length (sheet_bytes l (honest_sheet t (take l exit)))
-    sheet_size_lem = omega (arith, length_sheet_bytes l (honest_sheet t (take l exit)), entries_count)
+    pub sheet_size_lem : sheet_size l (s.found.steps + 1) ≡ length (sheet_bytes t.span (honest_sheet t (take t.span exit)))
+    sheet_size_lem = omega (arith, length_sheet_bytes t.span (honest_sheet t (take t.span exit)), entries_count, Z.span)
 
     -- there is room for it
     pub front_puttable : (sheet : List ℕ) → sheet_size l (s.found.steps + 1) ≤ length sheet
         → Puttable (length (take l exit)) (s.found.steps + 1) sheet
     front_puttable sheet h = record {
-      span = omega (arith, length_front, sizes.long);
+      span = omega (arith, length_front, Z.long);
       most = sizable.1;
       room = omega (arith, length_front, h);
     }
@@ -193,7 +191,8 @@ module _ {c : Code} {l : ℕ} {symbols : List ℤ} {room allowance : ℕ} {first
 
       -- and what is put is the honest sheet
       pub answer_sheet : sheet_bytes (length (take l exit)) (sheet_of s.found.metric (take l exit) (listed after.rows (s.found.steps + 1) 0))
-          ≡ sheet_bytes l (honest_sheet t (take l exit))
+          ≡ sheet_bytes t.span (honest_sheet t (take t.span exit))
       answer_sheet =
           let es : listed after.rows (s.found.steps + 1) 0 ≡ honest t (least_metric t) = listed_honest t (least_metric t) shown_holds light (s.found.steps + 1) entries_count in
-          λ z. sheet_bytes (length_front z) (sheet_of (sym right.least z) (take l exit) (es z))
+          (λ z. sheet_bytes (length_front z) (sheet_of (sym right.least z) (take l exit) (es z)))
+          ∙ ap (λ (k : ℕ). sheet_bytes k (honest_sheet t (take k exit))) (sym Z.span)

@@ -1,55 +1,56 @@
--- Laws of what `decode_sheet` hands back: the rows of its definition. Assumes nothing.
+-- Laws of what a decode with a sheet hands back: the rows of its definition, of any kind of block. Assumes nothing.
 use mathlib.Core.Path.{◌≡◌}
 use mathlib.Core.List.{List}
+use mathlib.Core.Bool.{Bool}
 use Prim.Native.Nat.{ℕ, ◌≤◌, ◌<◌}
 use native.Mathlib.Omega.{arith}
 use borrow.Author.Tests.{lt-ltb, le-ltb}
-use lib.IntN.{ℤ}
 use lib.ListN.{length, take}
 use lib.Seq.{sets}
-use Rattle.std.specs.Prelude.{Ok, Err}
+use Rattle.std.specs.Prelude.{Ok}
 use Rattle.lists.proofs.Writing.{sets_front}
-use Rattle.codes.specs.declared.table.Code.{Code}
-use Rattle.blocks.specs.Symbols.{view}
-use Rattle.blocks.specs.Blocks.{trellis_of}
-use Rattle.search.specs.Decoding.{decoding}
-use Rattle.search.specs.Decoding as decoder
-use Rattle.search.specs.declared.decoder.DecodeError.{DecodeError}
-use Rattle.search.specs.declared.decoder.DecodeError.TheVariants.{BadCode, BadSize, NoRoom, NoAllowance, Tied}
+use Rattle.desk.specs.Desk.{handed, refused, told_by}
+use Rattle.desk.specs.declared.Refusal.{Refusal}
+use Rattle.desk.specs.declared.Refusal.TheVariants.{BadCode, BadSize, NoRoom, NoAllowance, Tied, Malformed, NotCarried, NoSheetRoom}
+use Rattle.trellis.specs.Trellis.{Trellis}
+use Rattle.search.specs.Decoding.{found, decode_desk}
+use Rattle.search.specs.declared.seen.Found.{Found}
 use Rattle.sheets.specs.Bytes.{sheet_bytes}
 use Rattle.sheets.specs.Checking.{honest_sheet}
-use Rattle.writer.specs.declared.writer.SheetError.TheVariants.{Decode, NoSheetRoom}
-use Rattle.writer.specs.Sheeting.{told, honest_bytes, written, sheeting}
+use Rattle.writer.specs.Sheeting.{told, honest_bytes, written, sheet_desk}
 
-module _ (c : Code) (l : ℕ) (symbols : List ℤ) (room allowance words : ℕ) (message sheet : List ℕ) where
-  -- a refusal of `decode`
-  pub sheeting_refused : (e : DecodeError) → decoder.told (Err e) message ≡ decoding c l symbols room allowance words message
-      → told (Err (Decode e)) message sheet ≡ sheeting c l symbols room allowance words message sheet
-  unfolding told sheeting decoder.told
-  sheeting_refused BadCode h = rw (← h)
-  sheeting_refused BadSize h = rw (← h)
-  sheeting_refused (NoRoom steps) h = rw (← h)
-  sheeting_refused (NoAllowance steps) h = rw (← h)
-  sheeting_refused (Tied metric steps) h = rw (← h)
+module _ (rules sizes form : Bool) (t : Trellis) (room allowance : ℕ) (message sheet : List ℕ) where
+  -- a refusal of the decode
+  pub sheet_refused : (why : Refusal) → handed (refused why) message ≡ decode_desk rules sizes form t room allowance message
+      → handed (refused why) (message, sheet) ≡ sheet_desk rules sizes form t room allowance message sheet
+  unfolding refused sheet_desk
+  sheet_refused BadCode h = rw (← h)
+  sheet_refused BadSize h = rw (← h)
+  sheet_refused (NoRoom steps) h = rw (← h)
+  sheet_refused (NoAllowance steps) h = rw (← h)
+  sheet_refused (Tied metric steps) h = rw (← h)
+  sheet_refused Malformed h = rw (← h)
+  sheet_refused NotCarried h = rw (← h)
+  sheet_refused (NoSheetRoom bytes) h = rw (← h)
 
-  module _ {metric steps : ℕ} {exit : List ℕ} (h : decoder.handed 0 metric steps exit ≡ decoding c l symbols room allowance words message) where
+  module _ {f : Found} {exit : List ℕ} (h : handed (found f) exit ≡ decode_desk rules sizes form t room allowance message) where
     -- the sheet's bytes
     abbrev own : List ℕ
-    own = sheet_bytes l (honest_sheet (trellis_of c l (view symbols)) (take l exit))
+    own = sheet_bytes t.span (honest_sheet t (take t.span exit))
 
-    -- the answer of `decode`
-    pub answered_sheeting : written own message sheet (decoder.handed 0 metric steps exit) ≡ sheeting c l symbols room allowance words message sheet
-    unfolding sheeting honest_bytes
-    answered_sheeting = rw (← h)
+    -- the answer of the decode
+    pub sheet_answered : written own message sheet (handed (found f) exit) ≡ sheet_desk rules sizes form t room allowance message sheet
+    unfolding sheet_desk honest_bytes
+    sheet_answered = rw (← h)
 
     module _ {bytes : ℕ} (size : bytes ≡ length own) where
       -- 9: the buffer is too short for the sheet
-      pub sheeting_short : length sheet < bytes → told (Err (NoSheetRoom bytes)) message sheet ≡ sheeting c l symbols room allowance words message sheet
-      unfolding told written
-      sheeting_short low = rw (← answered_sheeting, lt-ltb (length sheet) (length own) (omega arith), size)
+      pub sheet_short : length sheet < bytes → handed (refused (NoSheetRoom bytes)) (message, sheet) ≡ sheet_desk rules sizes form t room allowance message sheet
+      unfolding refused written
+      sheet_short low = rw (← sheet_answered, lt-ltb (length sheet) (length own) (omega arith), size)
 
       -- 0: the sheet is in front of its buffer
-      pub sheeting_done : bytes ≤ length sheet → {after : List ℕ} → after ≡ sets sheet 0 own
-          → told (Ok (record { metric = metric; steps = steps; bytes = bytes })) exit after ≡ sheeting c l symbols room allowance words message sheet
-      unfolding told written
-      sheeting_done fits e = rw (← answered_sheeting, le-ltb (length sheet) (length own) (omega arith), size, e, sets_front sheet own (omega arith))
+      pub sheet_done : bytes ≤ length sheet → {after : List ℕ} → after ≡ sets sheet 0 own
+          → told (Ok (record { found = f; bytes = bytes })) exit after ≡ sheet_desk rules sizes form t room allowance message sheet
+      unfolding told_by written
+      sheet_done fits e = rw (← sheet_answered, le-ltb (length sheet) (length own) (omega arith), size, e, sets_front sheet own (omega arith))

@@ -1,30 +1,35 @@
--- `view::see` meets its contract: writing the numbers that are left over the buffer as it is gives all of them (the record Filling).
--- Assumes nothing.
-use mathlib.Core.Path.{◌≡◌, sym, ap, ◌∙◌}
-use Prim.Native.Nat.{◌+◌, ◌*◌}
-use native.Mathlib.Nat.{zero-add}
+-- `view::see` meets its contract: the numbers that are lent on show the block, and the machine has the code's trellis. Assumes nothing.
+use mathlib.Core.Path.{◌≡◌, ap, ◌∙◌}
+use Prim.Native.Nat.{ℕ, ◌≤◌}
 use native.Mathlib.Omega.{arith}
-use lib.IntN.{ℤ, pos}
-use lib.ListN.{get_or}
-use Rattle.std.proofs.Common.{rules}
-use Rattle.lists.proofs.Writing.{filling_next, filling_done}
-use Rattle.blocks.specs.Symbols.{hard_bit, weight, view}
-use Rattle.blocks.specs.Packed.{packed}
-use Rattle.blocks.proofs.Bytes.{byte_back}
-use Rattle.blocks.proofs.Packing.{packed_at, length_packed}
+use Rattle.codes.specs.Limits.{longest_message}
+use Rattle.codes.specs.Codes.{block_length}
+use Rattle.codes.specs.Work.{longest_block}
+use Rattle.codes.specs.declared.table.LawfulCode.{LawfulCode}
+use Rattle.codes.proofs.Rules.{block_short}
+use Rattle.blocks.specs.Machines.{trellis_at}
+use Rattle.blocks.specs.Packed.{seen_in}
+use Rattle.blocks.proofs.Machines.{code_trellis}
+use Rattle.blocks.proofs.Parts.{part_packed, part_view}
 use Rattle.blocks.proofs.view.see.Goals as goal
 
-pub loop-i-preserved : goal.loop-i-preserved
-loop-i-preserved c =
-    let symbols = c.args.symbols.now in
-    let i = c.loop-i.i in
-    let z = get_or symbols i (pos 0) in
-    let v : c.number.result ≡ get_or (packed (view symbols)) i 0 =
-    c.number.ensures
-    ∙ ap (λ (x : ℤ). weight x * 2 + hard_bit x) (byte_back z (search rules))
-    ∙ sym (packed_at symbols i) in
-    rw v (simp zero-add at (filling_next 0 (omega (arith, length_packed symbols)) c.loop-i.invariant))
+-- a buffer for the longest block has room for a block
+enough : (kept : LawfulCode) (l : ℕ) {symbols room : ℕ} → l ≤ longest_message → symbols ≡ block_length kept.code l → longest_block ≤ room
+    → symbols ≤ room
+enough kept l span full wide = omega (arith, full, wide, block_short kept.code l kept.rules span)
 
-pub returns : goal.returns
-returns c =
-    filling_done (omega (arith, length_packed c.args.symbols.now, c.loop-i-test.false)) c.loop-i.invariant
+pub put_numbers-requires : goal.put_numbers-requires
+put_numbers-requires c = enough c.args.kept c.args.bits c.requires.span c.requires.full c.requires.room
+
+pub new-requires-clause-narrow : goal.new-requires-clause-narrow
+new-requires-clause-narrow c =
+    let wide = enough c.args.kept c.args.bits c.requires.span c.requires.full c.requires.room in
+    rw (part_packed c.args.symbols.now c.put_numbers.new.seen c.args.seen.now c.put_numbers.ensures.numbers wide) c.put_numbers.ensures.narrow
+
+pub returns-clause-trellis : goal.returns-clause-trellis
+returns-clause-trellis c =
+    let wide = enough c.args.kept c.args.bits c.requires.span c.requires.full c.requires.room in
+    let b = c.new.ensures in
+    (λ z. trellis_at (b.machine z) (b.bits z) (seen_in (b.seen z)))
+    ∙ ap (trellis_at c.of.result c.args.bits) (part_view c.args.symbols.now c.put_numbers.new.seen c.args.seen.now c.put_numbers.ensures.numbers wide)
+    ∙ code_trellis c.of.result c.args.kept.code c.of.ensures c.args.bits _

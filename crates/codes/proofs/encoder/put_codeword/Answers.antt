@@ -10,19 +10,19 @@ use Rattle.codes.proofs.encoder.put_codeword.Goals as goal
 
 pub loop-i-preserved : goal.loop-i-preserved
 loop-i-preserved c =
-    let code = c.args.machine.code in
-    let kept = c.args.machine.kept in
+    let code = c.args.kept.code in
+    let kept = c.args.kept.rules in
     let message = c.args.message.now in
     let i = c.loop-i.i in
     let n = code.outputs in
     let few = outputs_few kept c.requires in
     let small = bit_small kept c.requires i in
     let room = room_enough kept c.requires in
-    let fits = branch_fits n i (length message + code.memory) c.loop-i-test.true in
+    let fits = branch_fits n i (length message + code.memory) (rw c.branches-branches.ensures at c.loop-i-test.true) in
     let counted : length c.put_branch.new.branch ≡ n = search rules in
     let place : n * i + n - n * i ≡ n = omega arith in
     let after : n * (i + 1) ≡ n * i + n = omega (arith, mul-suc n i) in
-    let next = outputs_next (generators_of code) code.memory c.loop-i.register.state message i c.loop-i-test.true in
+    let next = outputs_next (generators_of code) code.memory c.loop-i.register.state message i (rw c.branches-branches.ensures at c.loop-i-test.true) in
     record {
       memory = search rules;
       state = search (rules, next_below);

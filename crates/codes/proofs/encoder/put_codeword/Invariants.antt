@@ -17,4 +17,4 @@ pub record Done (code : Code) (message first out : List ℕ) (register : Registe
   pub kept : drop (code.outputs * i) out ≡ drop (code.outputs * i) first
 
 abbrev pub invariant-loop-i : goal.invariant-loop-i
-invariant-loop-i l = Done l.fn.machine.code l.message l.initial.out l.out l.register l.i
+invariant-loop-i l = Done l.fn.kept.code l.message l.initial.out l.out l.register l.i

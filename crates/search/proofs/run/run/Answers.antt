@@ -10,17 +10,15 @@ use Rattle.std.specs.Prelude.{Option, Some, is_ok, is_err, Result, Ok, Err}
 use Rattle.std.proofs.Common.{rules}
 use Rattle.std.proofs.lemmas.Result.{err_from_is_err_and}
 use Rattle.trellis.specs.Trellis.{Trellis, node, same, top, terminal}
-use Rattle.trellis.specs.Lawful.{Lawful}
 use Rattle.trellis.specs.Search.{Row, row_at, node_at, first_open, started, Ended, found, arrived, expand}
 use Rattle.trellis.proofs.Run.{Arrived, after}
-use Rattle.blocks.specs.Packed.{seen_in}
-use Rattle.blocks.proofs.Closing.{trellis_lawful}
+use Rattle.blocks.proofs.Asked.{block_lawful}
 use Rattle.store.specs.Memory.{Shown, showing, found_at}
 use Rattle.store.proofs.Found.{found_within, found_some}
-use Rattle.search.specs.Work.{cap, trellis_under, answer_of, Tries, Halts}
-use Rattle.blocks.specs.declared.branches.Block.{Block}
-use Rattle.search.specs.declared.decoder.DecodeError.{DecodeError}
-use Rattle.search.specs.declared.decoder.DecodeError.TheVariants.{NoRoom}
+use Rattle.blocks.specs.Machines.{trellis_under}
+use Rattle.search.specs.Work.{cap, answer_of, Tries, Halts}
+use Rattle.desk.specs.declared.Refusal.{Refusal}
+use Rattle.desk.specs.declared.Refusal.TheVariants.{NoRoom}
 use Rattle.search.specs.declared.run.Terminal.{Terminal}
 use Rattle.search.specs.declared.step.Full.{Full}
 use Rattle.search.proofs.Fits.{lent_on, tries_roomy}
@@ -29,15 +27,11 @@ use Rattle.search.proofs.Runs.{running_found, running_spent, running_full, runni
 use Rattle.search.proofs.run.run.Goals as goal
 
 -- how the search ended is what the memory shows and the run answers
-halts : (mid : Shown) {first nodes : Shown} {room : ℕ} {r : Result Terminal DecodeError} {e : Ended} → mid.words ≡ first.words → nodes ≡ showing mid e.rows
+halts : (mid : Shown) {first nodes : Shown} {room : ℕ} {r : Result Terminal Refusal} {e : Ended} → mid.words ≡ first.words → nodes ≡ showing mid e.rows
     → length e.rows ≤ room → r ≡ answer_of e.outcome → {whole : Ended} → whole ≡ e → Halts first nodes room r whole
 halts mid {first} {nodes} {room} {r} {e} k s m o w =
     subst (Halts first nodes room r) (sym w)
     (record { shows = s ∙ ap (λ (n : ℕ). record { words = n; rows = e.rows }) k; most = m; answer = o })
-
--- the trellis of a block is lawful
-law : (b : Block) → Lawful (trellis_under b)
-law b = trellis_lawful b.machine.code b.bits (seen_in b.seen.now)
 
 -- the first open row as it was found and read, and the test of it
 record Turn (t : Trellis) (rows : List Row) (i : ℕ) (row : Row) (b : Bool) : Type 0 where
@@ -72,13 +66,13 @@ loop-first-init c =
     record {
       roomy = record { most = rw rows c.requires.some; lent = lent_on (ap (λ (s : Shown). s.words) c.start.ensures) c.requires.lent };
       kept = refl;
-      running = running_cast rows (running_start c.args.room c.args.allowance (law c.args.block.now) (omega arith) c.requires.some);
+      running = running_cast rows (running_start c.args.room c.args.allowance (block_lawful c.args.block.now) (omega arith) c.requires.some);
     }
 
 pub unwrap-i-requires : goal.unwrap-i-requires
 unwrap-i-requires c =
     let rows : List Row = c.loop-first.nodes.rows in
-    rw (c.first_open.ensures, found_within rows (first_open rows) (running_open (law c.args.block.now) c.loop-first.invariant.running))
+    rw (c.first_open.ensures, found_within rows (first_open rows) (running_open (block_lawful c.args.block.now) c.loop-first.invariant.running))
 
 pub returns-then-is_terminal : goal.returns-then-is_terminal
 returns-then-is_terminal c =
@@ -88,7 +82,7 @@ returns-then-is_terminal c =
     let u = turn t rows c.first_open.ensures c.unwrap-i.ensures c.row-first.ensures.row c.top-last.ensures c.is_terminal.ensures in
     halts c.loop-first.nodes {e = arrived rows (first_open rows) c.loop-first.steps} (g.kept ∙ ap (λ (s : Shown). s.words) c.start.ensures) refl g.roomy.most
     (λ z. answer_of (found (u.read z).entry.cost c.loop-first.steps (u.read z).count (sym u.place z)))
-    (running_found (law c.args.block.now) g.running (subst T (sym (sym u.asked ∙ c.if-is_terminal.true)) tt))
+    (running_found (block_lawful c.args.block.now) g.running (subst T (sym (sym u.asked ∙ c.if-is_terminal.true)) tt))
 
 pub returns-then-steps-allowance : goal.returns-then-steps-allowance
 returns-then-steps-allowance c =
@@ -97,7 +91,7 @@ returns-then-steps-allowance c =
     let g = c.loop-first.invariant in
     let u = turn t rows c.first_open.ensures c.unwrap-i.ensures c.row-first.ensures.row c.top-last.ensures c.is_terminal.ensures in
     halts c.loop-first.nodes (g.kept ∙ ap (λ (s : Shown). s.words) c.start.ensures) refl g.roomy.most refl
-    (running_spent (law c.args.block.now) g.running (off u c.if-is_terminal.false) c.if-steps-allowance.true)
+    (running_spent (block_lawful c.args.block.now) g.running (off u c.if-is_terminal.false) c.if-steps-allowance.true)
 
 pub returns-in_err-map_err : goal.returns-in_err-map_err
 returns-in_err-map_err c =
@@ -111,7 +105,7 @@ returns-in_err-map_err c =
     let p = err_from_is_err_and c.from_residual.result c.from_residual.ensures.1 in
     rw (p.1, p.2, refusal)
     (halts c.loop-first.nodes (g.kept ∙ ap (λ (s : Shown). s.words) c.start.ensures) tried.shows tried.most refl
-    (running_full (law c.args.block.now) g.running (off u c.if-is_terminal.false) c.if-steps-allowance.false
+    (running_full (block_lawful c.args.block.now) g.running (off u c.if-is_terminal.false) c.if-steps-allowance.false
     (sym tried.full ∙ failed c.expand.result c.in_err-map_err.ensures.variant)))
 
 pub loop-first-preserved : goal.loop-first-preserved
@@ -127,6 +121,6 @@ loop-first-preserved c =
       kept = ap (λ (s : Shown). s.words) tried.shows ∙ g.kept;
       running =
           running_cast (ap (λ (s : Shown). s.rows) tried.shows)
-          (running_next (law c.args.block.now) g.running (off u c.if-is_terminal.false) c.if-steps-allowance.false
+          (running_next (block_lawful c.args.block.now) g.running (off u c.if-is_terminal.false) c.if-steps-allowance.false
           (sym tried.full ∙ passed c.expand.result c.in_ok-map_err.ensures.variant));
     }

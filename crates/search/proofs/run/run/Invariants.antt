@@ -3,7 +3,8 @@ use mathlib.Core.Path.{◌≡◌}
 use Prim.Native.Nat.{ℕ, ◌-◌}
 use Rattle.trellis.specs.Trellis.{Trellis}
 use Rattle.store.specs.Memory.{Shown}
-use Rattle.search.specs.Work.{cap, trellis_under, Roomy}
+use Rattle.blocks.specs.Machines.{trellis_under}
+use Rattle.search.specs.Work.{cap, Roomy}
 use Rattle.search.proofs.Runs.{Running}
 use Rattle.search.proofs.run.run.Given as goal
 

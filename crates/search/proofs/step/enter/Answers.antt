@@ -6,7 +6,7 @@ use native.Mathlib.Omega.{arith}
 use lib.ListN.{length, length-append, length-set}
 use Rattle.std.specs.Prelude.{Some, is_err, Result}
 use Rattle.trellis.specs.Search.{Row, node_at, cost_at, Tried, find_row}
-use Rattle.trellis.proofs.Rows.{find_row_is}
+use Rattle.trellis.proofs.Scan.{find_row_is}
 use Rattle.trellis.proofs.Entered.{entered_lowers, entered_joins, entered_leaves, entered_adds, entered_stops}
 use Rattle.store.specs.Memory.{row_of, Shown, showing, found_at}
 use Rattle.store.proofs.Found.{found_some, found_none}

@@ -10,12 +10,13 @@ use Rattle.trellis.specs.Trellis.{Trellis, allowed}
 use Rattle.trellis.specs.Search.{Row, row_at, node_at, Tried, shut, closed, fan, expand}
 use Rattle.trellis.proofs.Rows.{set_changed}
 use Rattle.trellis.proofs.Safe.{safe_closed}
+use Rattle.blocks.proofs.Asked.{block_lawful}
 use Rattle.store.specs.Memory.{Shown}
-use Rattle.search.specs.Work.{cap, trellis_under, Tries}
+use Rattle.blocks.specs.Machines.{trellis_under}
+use Rattle.search.specs.Work.{cap, Tries}
 use Rattle.search.specs.declared.step.Full.{Full}
 use Rattle.search.proofs.Fits.{lent_on, tries_roomy, tries_from}
 use Rattle.search.proofs.Fans.{Fanning, fanning_cast, fanning_start, fanning_full, fanning_next, fanning_done}
-use Rattle.blocks.specs.Packed.{seen_in}
 use Rattle.search.proofs.step.expand.Goals as goal
 
 -- a try that finishes the fan over the closed row's memory is a try of the whole
@@ -34,7 +35,7 @@ loop-input-init c =
     let kept : c.close.new.self.words ≡ c.args.nodes.now.words = ap (λ (s : Shown). s.words) c.close.ensures in
     let C = set_changed rows c.args.i (shut (row_at rows c.args.i)) c.requires.steppable.within in
     let allows : c.allowed-inputs.result ≡ allowed t (node_at (closed rows c.args.i) c.args.i).level =
-    c.allowed-inputs.ensures (seen_in c.args.block.now.seen.now) ∙ ap (λ (r : Row). allowed t r.entry.node.level) c.row-from.ensures.row
+    c.allowed-inputs.ensures ∙ ap (λ (r : Row). allowed t r.entry.node.level) c.row-from.ensures.row
     ∙ ap (λ (r : Row). allowed t r.entry.node.level) (sym C.here) in
     record {
       roomy = record {
@@ -44,7 +45,7 @@ loop-input-init c =
       kept = refl;
       fanning =
           subst (λ (l : List Row). Fanning t cap c.args.room c.args.i c.allowed-inputs.result l l 0) (sym closed_rows)
-          (fanning_start (safe_closed (omega arith) c.requires.steppable.safe c.requires.steppable.within) C.within allows);
+          (fanning_start (safe_closed (block_lawful c.args.block.now).wide c.requires.steppable.safe c.requires.steppable.within) C.within allows);
     }
 
 pub relax-requires-clause-steppable : goal.relax-requires-clause-steppable
@@ -57,7 +58,7 @@ pub returns-in_err-relax : goal.returns-in_err-relax
 returns-in_err-relax c =
     let t : Trellis = trellis_under c.args.block.now in
     let allows : c.allowed-inputs.result ≡ allowed t (node_at c.args.nodes.now.rows c.args.i).level =
-    c.allowed-inputs.ensures (seen_in c.args.block.now.seen.now) ∙ ap (λ (r : Row). allowed t r.entry.node.level) c.row-from.ensures.row in
+    c.allowed-inputs.ensures ∙ ap (λ (r : Row). allowed t r.entry.node.level) c.row-from.ensures.row in
     let g = c.loop-input.invariant in
     let tried = c.in_err-relax.ensures in
     let p = err_from_is_err_and c.from_residual.result c.from_residual.ensures.1 in
@@ -73,14 +74,14 @@ loop-input-preserved c =
     record {
       roomy = tries_roomy tried g.roomy.lent;
       kept = ap (λ (s : Shown). s.words) tried.shows ∙ g.kept;
-      fanning = fanning_cast (ap (λ (s : Shown). s.rows) tried.shows) (fanning_next g.fanning c.loop-input-test.true (omega arith) (sym tried.full));
+      fanning = fanning_cast (ap (λ (s : Shown). s.rows) tried.shows) (fanning_next g.fanning c.loop-input-test.true (block_lawful c.args.block.now).wide (sym tried.full));
     }
 
 pub returns : goal.returns
 returns c =
     let t : Trellis = trellis_under c.args.block.now in
     let allows : c.allowed-inputs.result ≡ allowed t (node_at c.args.nodes.now.rows c.args.i).level =
-    c.allowed-inputs.ensures (seen_in c.args.block.now.seen.now) ∙ ap (λ (r : Row). allowed t r.entry.node.level) c.row-from.ensures.row in
+    c.allowed-inputs.ensures ∙ ap (λ (r : Row). allowed t r.entry.node.level) c.row-from.ensures.row in
     let g = c.loop-input.invariant in
     based t {mid = c.loop-input.nodes} c.args.i c.allowed-inputs.result allows (ap (λ (s : Shown). s.rows) c.close.ensures) (fanning_done g.fanning c.loop-input-test.false)
     (g.kept ∙ ap (λ (s : Shown). s.words) c.close.ensures)

@@ -5,7 +5,8 @@ use native.Mathlib.Omega.{arith}
 use Rattle.trellis.specs.Trellis.{allowed}
 use Rattle.trellis.specs.Search.{Row, find_row, arrival, entered, relax}
 use Rattle.store.specs.Memory.{row_of}
-use Rattle.search.specs.Work.{cap, trellis_under, Fitting, brought, Tries}
+use Rattle.blocks.specs.Machines.{trellis_under}
+use Rattle.search.specs.Work.{cap, Fitting, brought, Tries}
 use Rattle.search.proofs.Fits.{safe_fitting}
 use Rattle.search.proofs.step.relax.Goals as goal
 

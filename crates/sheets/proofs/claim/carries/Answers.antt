@@ -1,37 +1,69 @@
--- `claim::carries` meets its contract: the numbers that are lent on show the block. Assumes nothing.
-use mathlib.Core.Path.{sym, ◌∙◌}
+-- `claim::carries` meets its contract: the path is walked, and the tests are the conditions. Assumes nothing.
+use mathlib.Core.Path.{sym, ap, ◌∙◌}
+use Prim.Native.Nat.{ℕ, ◌+◌}
 use native.Mathlib.Omega.{arith}
-use Rattle.blocks.specs.Blocks.{trellis_of}
-use Rattle.blocks.specs.Packed.{seen_in}
-use Rattle.blocks.proofs.Parts.{symbols_short, part_length, part_full, part_view}
+use lib.ListN.{get_or, take}
+use lib.Seq.{length-take-le}
+use Rattle.lists.specs.Lists.{all}
+use Rattle.trellis.specs.Trellis.{top}
+use Rattle.blocks.specs.Machines.{states_of, trellis_under}
+use Rattle.blocks.proofs.Asked.{top_few, bit_input}
+use Rattle.blocks.proofs.Walks.{walked_part}
 use Rattle.sheets.specs.Bytes.{sheet_read}
-use Rattle.sheets.specs.Checking.{carried}
+use Rattle.sheets.specs.Checking.{rising, inside}
+use Rattle.sheets.specs.Work.{passes}
+use Rattle.sheets.proofs.Octets.{bits_read}
+use Rattle.sheets.proofs.Rows.{formed_good}
+use Rattle.sheets.proofs.Claims.{carried_tests}
 use Rattle.sheets.proofs.claim.carries.Goals as goal
 
-pub see-requires : goal.see-requires
-see-requires c = symbols_short c.args.machine c.args.length c.args.symbols.now c.requires.span c.requires.full
+pub walk-requires : goal.walk-requires
+unfolding sheet_read
+walk-requires c =
+    let b = c.args.block.now in
+    record {
+      inputs = (λ i. bit_input b (get_or c.args.message.now i 0) (rw c.requires.own (bits_read c.args.sheet.now b.bits i)));
+      room = omega (arith, top_few b);
+    }
 
-pub slice_bounds-seen-end : goal.slice_bounds-seen-end
-slice_bounds-seen-end c = omega (arith, symbols_short c.args.machine c.args.length c.args.symbols.now c.requires.span c.requires.full, c.see.auto.seen)
+pub read-requires : goal.read-requires
+read-requires c = (formed_good c.args.block.now c.args.sheet.now (λ i. (c.type_inv.sheet i).fits) c.requires.some c.requires.form).front
 
-pub slice_bounds-new-end : goal.slice_bounds-new-end
-slice_bounds-new-end c =
-    sym (part_length c.args.machine c.args.length c.args.symbols.now c.requires.span c.requires.full c.see.new.seen _ c.see.ensures (omega arith))
+pub entries_of-requires : goal.entries_of-requires
+entries_of-requires c = (formed_good c.args.block.now c.args.sheet.now (λ i. (c.type_inv.sheet i).fits) c.requires.some c.requires.form).counted
 
-pub new-block-requires-clause-full : goal.new-block-requires-clause-full
-new-block-requires-clause-full c =
-    part_full c.args.machine c.args.length c.args.symbols.now c.requires.span c.requires.full c.see.new.seen _ c.see.ensures (omega arith)
+pub overflow_add-path : goal.overflow_add-path
+overflow_add-path c = record { fits = omega (arith, top_few c.args.block.now, c.top-top.ensures) }
 
-pub holds-requires : goal.holds-requires
-holds-requires c = record {
-  some = omega (arith, c.new-block.ensures.bits, c.requires.some);
-  form = rw (c.new-block.ensures.machine, c.new-block.ensures.bits) c.requires.form;
-}
+pub slice_bounds-path-end : goal.slice_bounds-path-end
+slice_bounds-path-end c = omega (arith, top_few c.args.block.now, c.top-top.ensures, c.walk.auto.path)
+
+pub slice_bounds-claim-end : goal.slice_bounds-claim-end
+slice_bounds-claim-end c =
+    sym (length-take-le (c.top-top.result + 1) c.walk.new.path (omega (arith, top_few c.args.block.now, c.top-top.ensures, c.walk.auto.path)))
+
+pub invariant_of-claim : goal.invariant_of-claim
+invariant_of-claim c =
+    let b = c.args.block.now in
+    let good = formed_good b c.args.sheet.now (λ i. (c.type_inv.sheet i).fits) c.requires.some c.requires.form in
+    record {
+      sound = record {
+        ordered = ap rising c.entries_of.ensures ∙ good.ordered;
+        inside = ap (all (inside (top (trellis_under b)) (states_of b.machine))) c.entries_of.ensures ∙ good.inside;
+        visits = length-take-le (c.top-top.result + 1) c.walk.new.path (omega (arith, top_few b, c.top-top.ensures, c.walk.auto.path))
+            ∙ ap (λ (n : ℕ). n + 1) c.top-top.ensures;
+      };
+    }
 
 pub returns : goal.returns
+unfolding sheet_read
 returns c =
-    let b = c.new-block.ensures in
-    let seen_all = part_view c.args.machine c.args.length c.args.symbols.now c.requires.span c.requires.full c.see.new.seen _ c.see.ensures (omega arith) in
-    c.holds.ensures
-    ∙ (λ z. carried (trellis_of (b.machine z).code (b.bits z) (seen_in (b.seen z))) (sheet_read (b.bits z) c.args.sheet.now))
-    ∙ (λ z. carried (trellis_of c.args.machine.code c.args.length (seen_all z)) (sheet_read c.args.length c.args.sheet.now))
+    let b = c.args.block.now in
+    let t = trellis_under b in
+    let good = formed_good b c.args.sheet.now (λ i. (c.type_inv.sheet i).fits) c.requires.some c.requires.form in
+    let path = take (c.top-top.result + 1) c.walk.new.path in
+    let walked = rw c.requires.own at c.walk.ensures in
+    c.passes.ensures
+    ∙ (λ z. passes t (c.entries_of.ensures z) (c.read.ensures.metric z) path)
+    ∙ sym (carried_tests b c.args.sheet.now path good.ordered
+    (walked_part t (sheet_read b.bits c.args.sheet.now).message (top t) (c.top-top.result + 1) c.walk.new.path (omega (arith, c.top-top.ensures)) walked))

@@ -30,7 +30,7 @@ use Rattle.trellis.proofs.Listing.{no_entry}
 use Rattle.sheets.specs.declared.entries.Node as key
 use Rattle.sheets.specs.Bytes.{entry_at}
 use Rattle.sheets.specs.Checking.{rising}
-use Rattle.sheets.specs.Steps.{entries_in, entry_said, listed_cost}
+use Rattle.sheets.specs.Work.{entries_in, entry_said, listed_cost}
 use Rattle.sheets.proofs.Listing.{length_entries_in, entries_in_at, rising_test}
 use Rattle.sheets.proofs.Costs.{listed_one, listed_none}
 use Rattle.sheets.proofs.entries.listed.Goals as goal

@@ -16,7 +16,7 @@ use Rattle.trellis.proofs.Honest.{lower}
 use Rattle.trellis.proofs.Listing.{no_entry}
 use Rattle.sheets.specs.Bytes.{entry_at}
 use Rattle.sheets.specs.Checking.{rising}
-use Rattle.sheets.specs.Steps.{entries_in}
+use Rattle.sheets.specs.Work.{entries_in}
 use Rattle.sheets.proofs.Listing.{length_entries_in, entries_in_at, rising_not}
 use Rattle.sheets.proofs.entries.rise.Goals as goal
 

@@ -5,47 +5,40 @@ use native.Mathlib.Omega.{arith}
 use lib.Dec.{eqb}
 use lib.ListN.{get_or}
 use lib.Pow.{shl_exact}
-use Rattle.lists.proofs.Decides.{Decides, said, equal, agree, decided_no}
+use Rattle.lists.proofs.Decides.{said, equal, agree, decided_no}
 use Rattle.sheets.specs.Bytes.{message_size, message_place, entries_place}
-use Rattle.sheets.specs.Checking.{framed}
 use Rattle.sheets.proofs.Frame.{Framed, framed_test}
 use Rattle.sheets.proofs.form.framed.Goals as goal
 
 pub returns-then-size-place : goal.returns-then-size-place
 returns-then-size-place c =
-    let test : Decides (framed c.args.length c.args.sheet.now) (Framed c.args.length c.args.sheet.now) = framed_test c.args.length c.args.sheet.now (λ i. (c.type_inv.sheet i).fits) c.requires.some
-    (omega (arith, c.requires.span)) in
+    let test = framed_test c.args.length c.args.sheet.now (λ i. (c.type_inv.sheet i).fits) c.requires.some c.requires.span in
     sym (decided_no test (λ f. absurd (omega (arith, f.size, c.entries_place-place.ensures))))
 
 pub returns-then-size-place-2 : goal.returns-then-size-place-2
 returns-then-size-place-2 c =
-    let test : Decides (framed c.args.length c.args.sheet.now) (Framed c.args.length c.args.sheet.now) = framed_test c.args.length c.args.sheet.now (λ i. (c.type_inv.sheet i).fits) c.requires.some
-    (omega (arith, c.requires.span)) in
+    let test = framed_test c.args.length c.args.sheet.now (λ i. (c.type_inv.sheet i).fits) c.requires.some c.requires.span in
     let place_is : c.entries_place-place.result ≡ entries_place c.args.length = c.entries_place-place.ensures in
     sym (decided_no test (λ f. c.if-size-place-2.true (omega (arith, f.size, place_is, c.read-head.ensures.count))))
 
 pub returns-then-head-size : goal.returns-then-head-size
 returns-then-head-size c =
-    let test : Decides (framed c.args.length c.args.sheet.now) (Framed c.args.length c.args.sheet.now) = framed_test c.args.length c.args.sheet.now (λ i. (c.type_inv.sheet i).fits) c.requires.some
-    (omega (arith, c.requires.span)) in
+    let test = framed_test c.args.length c.args.sheet.now (λ i. (c.type_inv.sheet i).fits) c.requires.some c.requires.span in
     sym (decided_no test (λ f. c.if-head-size.true (omega (arith, f.follow, c.read-head.ensures.follow))))
 
 pub returns-then-head-ne-KIND : goal.returns-then-head-ne-KIND
 returns-then-head-ne-KIND c =
-    let test : Decides (framed c.args.length c.args.sheet.now) (Framed c.args.length c.args.sheet.now) = framed_test c.args.length c.args.sheet.now (λ i. (c.type_inv.sheet i).fits) c.requires.some
-    (omega (arith, c.requires.span)) in
+    let test = framed_test c.args.length c.args.sheet.now (λ i. (c.type_inv.sheet i).fits) c.requires.some c.requires.span in
     sym (decided_no test (λ f. c.if-head-ne-KIND.true (c.read-head.ensures.kind ∙ f.kind)))
 
 pub returns-then-head-length : goal.returns-then-head-length
 returns-then-head-length c =
-    let test : Decides (framed c.args.length c.args.sheet.now) (Framed c.args.length c.args.sheet.now) = framed_test c.args.length c.args.sheet.now (λ i. (c.type_inv.sheet i).fits) c.requires.some
-    (omega (arith, c.requires.span)) in
+    let test = framed_test c.args.length c.args.sheet.now (λ i. (c.type_inv.sheet i).fits) c.requires.some c.requires.span in
     sym (decided_no test (λ f. c.if-head-length.true (c.read-head.ensures.span ∙ f.span)))
 
 pub returns : goal.returns
 returns c =
-    let test : Decides (framed c.args.length c.args.sheet.now) (Framed c.args.length c.args.sheet.now) = framed_test c.args.length c.args.sheet.now (λ i. (c.type_inv.sheet i).fits) c.requires.some
-    (omega (arith, c.requires.span)) in
+    let test = framed_test c.args.length c.args.sheet.now (λ i. (c.type_inv.sheet i).fits) c.requires.some c.requires.span in
     let place_is : c.entries_place-place.result ≡ entries_place c.args.length = c.entries_place-place.ensures in
     let spare_bits : ℕ = 8 * (c.entries_place-place.result - 14) - c.args.length in
     let spare_is : let l = c.args.length in spare_bits ≡ 8 * message_size l - l = omega (arith, place_is) in

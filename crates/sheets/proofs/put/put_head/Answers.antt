@@ -5,7 +5,7 @@ use Prim.Native.Nat.{ℕ, ◌-◌}
 use lib.Seq.{sets}
 use Rattle.lists.proofs.Writing.{sets_append}
 use Rattle.sheets.specs.Bytes.{bytes_of, kind}
-use Rattle.sheets.specs.Steps.{sheet_size, head_bytes}
+use Rattle.sheets.specs.Work.{sheet_size, head_bytes}
 use Rattle.sheets.proofs.Numbers.{two_put, four_put}
 use Rattle.sheets.proofs.put.put_head.Goals as goal
 
